@@ -6,13 +6,11 @@ use Rattle.mm_isa.specs.declared.instr.Instr.{Instr}
 use Rattle.mm_model.specs.{declared.event.Event.Event, Memory.{Memory, cell_at, is_mapped, IsPaged}, Slot.Slot}
 use Rattle.mm_model.specs.{State.{Core, slot_at, queue_at}, Ask.{Ask, Ask.{Reach, MapPage, UnmapPage, NextEvent, Serve}}}
 use Rattle.mm_model.proofs.{Memories.{cell_at-put_same, page_at-map_same, page_at-unmap_same}, Sames.cell_self}
-use Rattle.mm_thread.specs.declared.told.{There.There}
-use Rattle.mm_thread.specs.Told.{has_page, slot_there, event_there, cell_there, there_at}
+use Rattle.mm_thread.specs.Told.{There, has_page, slot_there, event_there, cell_there, there_at}
 use Rattle.mm_log.specs.{Lines.Line.{Maps, Sets}, Changes.{pages_mapped, pages_removed, cells_changed}}
 use Rattle.mm_log.specs.Seen.{page_told, page_seen, cell_now, cell_seen}
 use Rattle.mm_thread.proofs.Rows.{MemoryMove}
 use Rattle.mm_log.proofs.{Pages.{MemoryTold, memory_told}, Peeks.mapped_by}
-use Rattle.mm_thread.specs.declared.told.There.TheVariants as there
 
 module _ (core : Core) (m : Memory) (paged : IsPaged m) where
   has_it : (p : ℕ) → has_page m p ≡ is_mapped m p
@@ -66,19 +64,19 @@ module _ (core : Core) (m : Memory) (paged : IsPaged m) where
   told_seen : (n : ℕ) (i : Instr) (asked : Ask) (later : Memory) → MemoryTold m asked later → TellsMemory later (there_at core m n i asked)
   told_seen n i asked later (MemoryTold.nothing same a b c) = stays_seen (there_at core m n i asked) (nothing_at n i asked) later same a b c
   told_seen n i asked later (MemoryTold.cell a pre old c is at made x y z) =
-      let here : there_at core m n i asked ≡ there.Cell a old = ap (there_at core m n i) is ∙ ap (cell_there a) at in
+      let here : there_at core m n i asked ≡ There.CellAt a old = ap (there_at core m n i) is ∙ ap (cell_there a) at in
       let now : cell_at later a.addr ≡ Some c = ap (λ (v : Memory). cell_at v a.addr) made ∙ cell_at-put_same m a.addr c old at in (
         ap (λ l. l ++ pages_removed m later) x ∙ y ∙ sym (ap (page_seen later) here),
         z ∙ sym (ap (cell_seen later) here ∙ ap (cell_now a.addr old) now),
       )
   told_seen n i asked later (MemoryTold.mapped p is free made x y z) =
-      let here : there_at core m n i asked ≡ there.Page p false = ap (there_at core m n i) is ∙ ap (λ b. there.Page p b) (has_it p ∙ free) in
+      let here : there_at core m n i asked ≡ There.PageAt p false = ap (there_at core m n i) is ∙ ap (λ b. There.PageAt p b) (has_it p ∙ free) in
       let now : is_mapped later p ≡ true = ap (λ (v : Memory). is_mapped v p) made ∙ ap is_some (page_at-map_same m p) in (
         ap (λ l. l ++ pages_removed m later) x ∙ ap (λ l. Maps p ∷ l) y ∙ sym (ap (page_seen later) here ∙ ap (page_told p false) now),
         z ∙ sym (ap (cell_seen later) here),
       )
   told_seen n i asked later (MemoryTold.removed p is mapped made x y z) =
-      let here : there_at core m n i asked ≡ there.Page p true = ap (there_at core m n i) is ∙ ap (λ b. there.Page p b) (has_it p ∙ mapped) in
+      let here : there_at core m n i asked ≡ There.PageAt p true = ap (there_at core m n i) is ∙ ap (λ b. There.PageAt p b) (has_it p ∙ mapped) in
       let now : is_mapped later p ≡ false = ap (λ (v : Memory). is_mapped v p) made ∙ ap is_some (page_at-unmap_same m p) in (
         ap (λ l. l ++ pages_removed m later) x ∙ y ∙ sym (ap (page_seen later) here ∙ ap (page_told p true) now),
         z ∙ sym (ap (cell_seen later) here),
@@ -101,5 +99,5 @@ module _ (core : Core) (m : Memory) (paged : IsPaged m) where
   pub same_seen : (n : ℕ) (i : Instr) (a : Ask) → TellsMemory m (there_at core m n i a)
   same_seen n i a = stays_by (there_at core m n i a) (nothing_at n i a)
 
-  pub nothing_seen : TellsMemory m there.Nothing
-  nothing_seen = stays_by there.Nothing (refl, refl)
+  pub nothing_seen : TellsMemory m There.Nothing
+  nothing_seen = stays_by There.Nothing (refl, refl)

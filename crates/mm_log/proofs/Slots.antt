@@ -8,14 +8,13 @@ use Rattle.mm_word.specs.{declared.word.Cell.Cell, Access.AccessValue}
 use Rattle.mm_model.specs.{State.{Core, slot_at, queue_at, output_of}, Fits.{IsSlot, IsFormed}}
 use Rattle.mm_model.specs.Ask.{Ask, ask, Ask.{Reach, MapPage, UnmapPage, NextEvent, Serve}}
 use Rattle.mm_model.proofs.CoreRows.{slot_at-number, slot_has}
-use Rattle.mm_thread.specs.declared.told.{Was.Was, There.There}
-use Rattle.mm_thread.specs.Told.{was_of, other_registers, slot_there, event_there, there_at}
+use Rattle.mm_thread.specs.declared.told.Was.{Was}
+use Rattle.mm_thread.specs.Told.{There, was_of, other_registers, slot_there, event_there, there_at}
 use Rattle.mm_log.specs.{Lines.{Line, Line.Puts}, Changes.{changes_between, each_number, slots_changed, put_out_by}}
 use Rattle.mm_log.specs.Seen.{seen_of, in_order, with_there}
 use Rattle.mm_thread.proofs.Rows.{OtherMove}
 use Rattle.mm_log.proofs.Left.{AreNamed, Kept, between_left}
 use Rattle.mm_log.proofs.Numbers.{one_number, two_numbers, changes_none}
-use Rattle.mm_thread.specs.declared.told.There.TheVariants as there
 
 -- 1. The other slot.
 
@@ -28,22 +27,22 @@ module _ (core : Core) (os : Slot → List ℕ) where
     pub names : AreNamed (os of)
 
   abbrev pub IsThere : There → Type 0
-  IsThere (there.Slot w) = IsOf w
+  IsThere (There.SlotAt w) = IsOf w
   IsThere _ = Unit {0}
 
 -- a number is not that of another slot that was shown
 abbrev pub Apart : ℕ → There → Type 0
-Apart k (there.Slot w) = k ≢ w.number
+Apart k (There.SlotAt w) = k ≢ w.number
 Apart k _ = Unit {0}
 
 -- a slot that the turn changes besides its own was shown
 pub other_shown : (core : Core) (m : Memory) (n : ℕ) (i : Instr) (asked : Ask) (o : Slot) → OtherMove core n asked o → (k : ℕ) → Apart k (there_at core m n i asked) → k ≢ o.number
 other_shown core m n i asked o (OtherMove.serves old is at move turns) k apart =
-    let here : there_at core m n i asked ≡ there.Slot (was_of old (other_registers core.split i old)) = ap (there_at core m n i) is ∙ ap (slot_there core.split i) at in
+    let here : there_at core m n i asked ≡ There.SlotAt (was_of old (other_registers core.split i old)) = ap (there_at core m n i) is ∙ ap (slot_there core.split i) at in
     let ne : k ≢ old.number = subst (Apart k) here apart in
     λ e. ne (e ∙ sym (slot_at-number core o.number old at))
 other_shown core m n i asked o (OtherMove.takes_first old e rest is queue slot at made) k apart =
-    let here : there_at core m n i asked ≡ there.Slot (was_of old (other_registers core.split i old)) =
+    let here : there_at core m n i asked ≡ There.SlotAt (was_of old (other_registers core.split i old)) =
     ap (there_at core m n i) is ∙ ap (event_there core i) queue ∙ ap (slot_there core.split i) (ap (slot_at core) slot ∙ at) in
     let ne : k ≢ old.number = subst (Apart k) here apart in
     λ e. ne (e ∙ sym (slot_at-number core o.number old at))
@@ -119,10 +118,10 @@ module _ (core : Core) (formed : IsFormed core) (s : Slot) (at : slot_at core s.
         ]
 
     pub slots_seen_by : (x : There) → IsThere core os x → ((k : ℕ) → k ≢ s.number → Apart k x → slot_at later k ≡ slot_at core k) → slots_changed core later ≡ with_there later (was_of s rs) x
-    slots_seen_by (there.Slot w) is h = beside w is h
-    slots_seen_by there.Nothing is h = alone (λ k ne. h k ne tt)
-    slots_seen_by (there.Cell a c) is h = alone (λ k ne. h k ne tt)
-    slots_seen_by (there.Page p b) is h = alone (λ k ne. h k ne tt)
+    slots_seen_by (There.SlotAt w) is h = beside w is h
+    slots_seen_by There.Nothing is h = alone (λ k ne. h k ne tt)
+    slots_seen_by (There.CellAt a c) is h = alone (λ k ne. h k ne tt)
+    slots_seen_by (There.PageAt p b) is h = alone (λ k ne. h k ne tt)
 
   -- 3. The lines of what groups put out.
 

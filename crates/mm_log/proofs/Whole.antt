@@ -29,8 +29,8 @@ use Rattle.mm_model.proofs.CoreRows.{slot_at-number, slot_at-put_same, slot_at-p
 use Rattle.mm_model.proofs.{CoreRows.slot_has, CoreSteps.Fitting, SlotSteps.delivered_from, TurnKeeps.changed_from}
 use Rattle.mm_model.proofs.{Fitted.{fitting_of, core_of, paged_of}, Shortness.loads_small}
 use Rattle.mm_machine.specs.Validity.{IsValid}
-use Rattle.mm_thread.specs.declared.told.{Was.Was, There.There, Told.Told}
-use Rattle.mm_thread.specs.Told.{was_of, oldest, other_registers, cell_there, slot_there, event_there, there_at, there_for}
+use Rattle.mm_thread.specs.Told.{There, Told, was_of, oldest, other_registers, cell_there, slot_there, event_there}
+use Rattle.mm_thread.specs.Told.{there_at, there_for}
 use Rattle.mm_thread.specs.Told.{told_waiting, told_executing, told_at, operands_in, event_in, in_cell, found_by, comes_to}
 use Rattle.mm_thread.specs.Told.{told_by_port, told_by, told_of}
 use Rattle.mm_log.specs.{Lines.{Line, line_text, Line.Puts}, Log.{turns_in, told, cycle_log, text_of}}
@@ -44,7 +44,6 @@ use Rattle.mm_log.proofs.{Turns.turn_moves, Numbers.{no_number, changes_self}, P
 use Rattle.mm_log.proofs.{Left.{AreNamed, Kept}, Slots.{IsThere, Apart, other_shown, slots_seen_by, outs_seen_by}}
 use Rattle.mm_log.proofs.Memories.{TellsMemory, memory_seen, same_seen, nothing_seen}
 use Rattle.mm_log.proofs.Events.{none_queued, none_read, before_there, mid_there, fault_events, change_events}
-use Rattle.mm_thread.specs.declared.told.There.TheVariants as there
 
 -- 1. What was shown.
 
@@ -142,7 +141,7 @@ module _ (core : Core) (m : Memory) (formed : IsFormed core) (fit : Fitting core
       named = oldest_named s at;
       others = λ of. [];
       instr = i;
-      beside = there.Nothing;
+      beside = There.Nothing;
       known = tt;
       stays = nothing_seen core m paged;
     }

@@ -10,11 +10,10 @@ use Rattle.mm_model.specs.declared.step.Tick.{Tick, TheVariants.{Did, Faulted}}
 use Rattle.mm_model.specs.{Memory.{Memory, cell_at, is_mapped}, Effect.same_word, Report.{same_bit, same_cell}}
 use Rattle.mm_model.specs.Slot.{Slot, register, is_empty}
 use Rattle.mm_model.specs.State.{Core, State, slot_at, output_of}
-use Rattle.mm_thread.specs.declared.told.{Held.Held, Was.Was, There.There, Told.Told}
-use Rattle.mm_thread.specs.Told.{event_in}
+use Rattle.mm_thread.specs.declared.told.{Held.Held, Was.Was}
+use Rattle.mm_thread.specs.Told.{There, Told, event_in}
 use Rattle.mm_log.specs.{Lines.{Line, Line.{Points, Enters, Issues, Queues, Reads, Puts}}}
 use Rattle.mm_log.specs.{Lines.Line.{Maps, Removes, Sets}, Changes.{same_state, register_now}}
-use Rattle.mm_thread.specs.declared.told.There.TheVariants as there
 
 -- the lines of a slot, given what was kept of it
 
@@ -48,7 +47,7 @@ in_order own other first second =
     (if nat_lt other own then second else []) ++ first ++ (if nat_lt own other then second else [])
 
 abbrev pub with_there : Core → Was → There → List Line
-with_there later own (there.Slot other) = in_order own.number other.number (seen_of later own) (seen_of later other)
+with_there later own (There.SlotAt other) = in_order own.number other.number (seen_of later own) (seen_of later other)
 with_there later own _ = seen_of later own
 
 abbrev pub slots_seen : Core → Told → List Line
@@ -86,7 +85,7 @@ page_told p was now =
     (if now && not was then Maps p ∷ [] else []) ++ (if was && not now then Removes p ∷ [] else [])
 
 abbrev pub page_seen : Memory → There → List Line
-page_seen later (there.Page p was) = page_told p was (is_mapped later p)
+page_seen later (There.PageAt p was) = page_told p was (is_mapped later p)
 page_seen later _ = []
 
 abbrev pub cell_now : ℕ → Cell → Option Cell → List Line
@@ -94,7 +93,7 @@ cell_now w was None = []
 cell_now w was (Some now) = if same_cell now was then [] else Sets w now ∷ []
 
 abbrev pub cell_seen : Memory → There → List Line
-cell_seen later (there.Cell a was) = cell_now a.addr was (cell_at later a.addr)
+cell_seen later (There.CellAt a was) = cell_now a.addr was (cell_at later a.addr)
 cell_seen later _ = []
 
 unfoldable pub seen : State → Told → Tick → List Line

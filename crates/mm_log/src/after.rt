@@ -7,6 +7,7 @@ ghost use Rattle.mm_text.specs.Appends.{Appends};
 ghost use Rattle.mm_model.specs.Memory.{cell_at, is_mapped as is_mapped_in};
 ghost use Rattle.mm_model.specs.State.{output_of};
 ghost use Rattle.mm_machine.specs.Machine.{state_of};
+ghost use Rattle.mm_thread.specs.Told.{told_in, shown_in};
 ghost use Rattle.mm_log.specs.Lines.{line_text};
 ghost use Rattle.mm_log.specs.Lines.Line.{Puts, Maps, Removes};
 ghost use Rattle.mm_log.specs.Log.{text_of};
@@ -17,7 +18,7 @@ use crate::lines::{put_byte, put_event, put_gone_page, put_new_page, put_set, pu
 use crate::slots::{is_same_bit, put_slot_left};
 use mm_io::Sink;
 use mm_isa::Instr;
-use mm_machine::{LastTurn, Machine, There, Told, Was, event_of};
+use mm_machine::{Beside, Kept, LastTurn, Machine, Was, event_of};
 use mm_mem::{Inspect, Memory};
 use mm_model::{Tick, is_same_word};
 use mm_text::TextBuffer;
@@ -87,14 +88,16 @@ fn put_slots<M: Memory, O: Sink>(
     text: &mut TextBuffer,
     out: &mut O,
     machine: &Machine<M>,
-    told: &Told,
+    kept: &Kept,
 )
     ensures { Appends O.taken O.faults out.old out.new text.old text.new
-        (text_of (slots_seen (state_of machine.now).core told.now)) }
+        (text_of (slots_seen (state_of machine.now).core (told_in kept.now))) }
 {
-    match &told.there {
-        There::Slot(other) => put_two(text, out, machine, &told.own, other),
-        There::Nothing | There::Cell(..) | There::Page(..) => put_own(text, out, machine, &told.own),
+    match kept.beside {
+        Beside::Slot => put_two(text, out, machine, &kept.own, &kept.other),
+        Beside::Nothing | Beside::Cell(..) | Beside::Page(..) => {
+            put_own(text, out, machine, &kept.own)
+        }
     }
 }
 
@@ -104,31 +107,31 @@ fn put_queued<M: Memory, O: Sink>(
     text: &mut TextBuffer,
     out: &mut O,
     machine: &Machine<M>,
-    told: &Told,
+    kept: &Kept,
     tick: Tick,
 )
     ensures { Appends O.taken O.faults out.old out.new text.old text.new
-        (text_of (queued_seen (state_of machine.now).core told.now tick)) }
+        (text_of (queued_seen (state_of machine.now).core (told_in kept.now) tick)) }
 {
     let Tick::Faulted(cause) = tick else {
         return;
     };
-    let Some(now) = machine.slot(told.own.number) else {
+    let Some(now) = machine.slot(kept.own.number) else {
         return;
     };
     let Some(handler) = now.handler else {
         return;
     };
-    let event = event_of(now, &told.instr, cause);
+    let event = event_of(now, &kept.instr, cause);
     put_event(text, out, handler, &event);
 }
 
 /// Appends the line of the event that a turn read, if it read one.
-fn put_read<O: Sink>(text: &mut TextBuffer, out: &mut O, told: &Told, tick: Tick)
-    ensures { Appends O.taken O.faults out.old out.new text.old text.new (text_of (read_seen told.now tick)) }
+fn put_read<O: Sink>(text: &mut TextBuffer, out: &mut O, kept: &Kept, tick: Tick)
+    ensures { Appends O.taken O.faults out.old out.new text.old text.new (text_of (read_seen (told_in kept.now) tick)) }
 {
-    if let (Tick::Did, Some(Instr::Evt { .. })) = (tick, &told.instr) {
-        put_taken(text, out, told.own.number);
+    if let (Tick::Did, Some(Instr::Evt { .. })) = (tick, &kept.instr) {
+        put_taken(text, out, kept.own.number);
     }
 }
 
@@ -148,15 +151,15 @@ fn put_out<M: Memory, O: Sink>(
     text: &mut TextBuffer,
     out: &mut O,
     machine: &Machine<M>,
-    told: &Told,
+    kept: &Kept,
 )
     ensures { Appends O.taken O.faults out.old out.new text.old text.new
-        (flat_map (λ b. line_text (Puts told.now.group b))
-        (drop told.now.output (output_of (state_of machine.now).core told.now.group))) }
+        (flat_map (λ b. line_text (Puts kept.now.group b))
+        (drop kept.now.output (output_of (state_of machine.now).core kept.now.group))) }
 {
-    let bytes = machine.output(told.group);
-    if told.output < bytes.len() {
-        put_bytes(text, out, told.group, &bytes[told.output..]);
+    let bytes = machine.output(kept.group);
+    if kept.output < bytes.len() {
+        put_bytes(text, out, kept.group, &bytes[kept.output..]);
     }
 }
 
@@ -228,16 +231,16 @@ fn put_memory<M: Inspect, O: Sink>(
     text: &mut TextBuffer,
     out: &mut O,
     machine: &Machine<M>,
-    there: &There,
+    kept: &Kept,
 )
     ensures { Appends O.taken O.faults out.old out.new text.old text.new
-        (text_of (page_seen (state_of machine.now).memory there.now
-        ++ cell_seen (state_of machine.now).memory there.now)) }
+        (text_of (page_seen (state_of machine.now).memory (told_in kept.now).there
+        ++ cell_seen (state_of machine.now).memory (told_in kept.now).there)) }
 {
-    match there {
-        There::Page(page, was) => put_page(text, out, *page, *was, is_mapped(machine, *page)),
-        There::Cell(access, was) => put_reached(text, out, machine, *access, was),
-        There::Nothing | There::Slot(_) => {}
+    match &kept.beside {
+        Beside::Page(page, was) => put_page(text, out, *page, *was, is_mapped(machine, *page)),
+        Beside::Cell(access, was) => put_reached(text, out, machine, *access, was),
+        Beside::Nothing | Beside::Slot => {}
     }
 }
 
@@ -246,17 +249,17 @@ fn put_seen<M: Inspect, O: Sink>(
     text: &mut TextBuffer,
     out: &mut O,
     machine: &Machine<M>,
-    told: &Told,
+    kept: &Kept,
     tick: Tick,
 )
     ensures { Appends O.taken O.faults out.old out.new text.old text.new
-        (text_of (seen (state_of machine.now) told.now tick)) }
+        (text_of (seen (state_of machine.now) (told_in kept.now) tick)) }
 {
-    put_slots(text, out, machine, told);
-    put_queued(text, out, machine, told, tick);
-    put_read(text, out, told, tick);
-    put_out(text, out, machine, told);
-    put_memory(text, out, machine, &told.there);
+    put_slots(text, out, machine, kept);
+    put_queued(text, out, machine, kept, tick);
+    put_read(text, out, kept, tick);
+    put_out(text, out, machine, kept);
+    put_memory(text, out, machine, kept);
 }
 
 /// Appends the lines of what a cycle changed.
@@ -267,9 +270,9 @@ pub(crate) fn put_changes<M: Inspect, O: Sink>(
     last: &LastTurn,
 )
     ensures { Appends O.taken O.faults out.old out.new text.old text.new
-        (text_of (seen_by (state_of machine.now) last.now.told last.now.step.tick)) }
+        (text_of (seen_by (state_of machine.now) (shown_in last.now) last.now.step.tick)) }
 {
-    if let Some(told) = &last.told {
-        put_seen(text, out, machine, told, last.step.tick);
+    if last.shown {
+        put_seen(text, out, machine, &last.kept, last.step.tick);
     }
 }

@@ -11,7 +11,7 @@ ghost use Rattle.mm_log.specs.Log.{log_text};
 use crate::after::put_changes;
 use crate::telling::{Teller, issue_told, turns_of};
 use mm_io::Sink;
-use mm_machine::{LastTurn, Machine, Step};
+use mm_machine::{LastTurn, Machine};
 use mm_mem::Inspect;
 use mm_report::put_step;
 use mm_sched::Order;
@@ -32,11 +32,17 @@ pub fn issue_logged<M: Inspect, O: Sink>(
     ensures lines { Appends O.taken O.faults out.old out.new text.old text.new
         (log_text (state_of machine.old) (items_of order.now (state_of machine.old) count)) }
 {
-    issue_told::<Logger, M, O>(machine, order, count, text, out)
+    let mut logger = Logger {
+        last: LastTurn::new(),
+    };
+    issue_told(&mut logger, machine, order, count, text, out)
 }
 
-// The teller of a log.
-struct Logger;
+// The teller of a log, with the place for what its turns show.
+#[derive(Drop)]
+struct Logger {
+    last: LastTurn,
+}
 
 impl Teller for Logger {
     ghost use Rattle.mm_log.specs.Telling.{logged_cycle};
@@ -44,18 +50,15 @@ impl Teller for Logger {
     ghost of_cycle = { logged_cycle };
 
     fn tell<M: Inspect, O: Sink>(
+        &mut self,
         machine: &mut Machine<M>,
         item: u8,
         text: &mut TextBuffer,
         out: &mut O,
     ) {
-        let mut last = LastTurn {
-            step: Step::idle(0),
-            told: None,
-        };
-        machine.cycle_shown(item, &mut last);
-        let turns = turns_of(machine, last.step.slot);
-        put_step(text, out, &last.step, turns);
-        put_changes(text, out, machine, &last);
+        machine.cycle_shown(item, &mut self.last);
+        let turns = turns_of(machine, self.last.step.slot);
+        put_step(text, out, &self.last.step, turns);
+        put_changes(text, out, machine, &self.last);
     }
 }

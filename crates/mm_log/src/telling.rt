@@ -30,6 +30,7 @@ pub trait Teller {
 
     /// Makes one cycle, and appends its text.
     fn tell<M: Inspect, O: Sink>(
+        &mut self,
         machine: &mut Machine<M>,
         item: u8,
         text: &mut TextBuffer,
@@ -45,6 +46,7 @@ pub trait Teller {
 
 /// Issues up to `count` cycles in an order, and appends the text of each. Stops early if the items end or no slot runs.
 pub fn issue_told<T: Teller, M: Inspect, O: Sink>(
+    teller: &mut T,
     machine: &mut Machine<M>,
     order: &Order,
     count: u64,
@@ -58,17 +60,18 @@ pub fn issue_told<T: Teller, M: Inspect, O: Sink>(
         (text_of_run T.of_cycle (state_of machine.old) (items_of order.now (state_of machine.old) count)) }
 {
     match order {
-        Order::Robin => tell_robin::<T, M, O>(machine, count, text, out),
+        Order::Robin => tell_robin(teller, machine, count, text, out),
         Order::List(list) => {
             let items = list.items();
             let first = &items[..count.min(items.len() as u64) as usize];
-            tell_list::<T, M, O>(machine, first, text, out);
+            tell_list(teller, machine, first, text, out);
         }
     }
 }
 
 /// Issues the items of a list, and appends the text of each.
 fn tell_list<T: Teller, M: Inspect, O: Sink>(
+    teller: &mut T,
     machine: &mut Machine<M>,
     items: &[u8],
     text: &mut TextBuffer,
@@ -81,12 +84,13 @@ fn tell_list<T: Teller, M: Inspect, O: Sink>(
         (text_of_run T.of_cycle (state_of machine.old) items.now) }
 {
     for item in items {
-        T::tell(machine, *item, text, out);
+        teller.tell(machine, *item, text, out);
     }
 }
 
 /// Issues up to `count` cycles of round robin, and appends the text of each. Stops early only if no slot runs.
 fn tell_robin<T: Teller, M: Inspect, O: Sink>(
+    teller: &mut T,
     machine: &mut Machine<M>,
     count: u64,
     text: &mut TextBuffer,
@@ -103,7 +107,7 @@ fn tell_robin<T: Teller, M: Inspect, O: Sink>(
         let Some(item) = robin.next(machine.running()) else {
             break;
         };
-        T::tell(machine, item, text, out);
+        teller.tell(machine, item, text, out);
     }
 }
 

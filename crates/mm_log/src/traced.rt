@@ -29,10 +29,11 @@ pub fn issue_traced<M: Inspect, O: Sink>(
     ensures lines { Appends O.taken O.faults out.old out.new text.old text.new
         (trace (state_of machine.old) (items_of order.now (state_of machine.old) count)) }
 {
-    issue_told::<Tracer, M, O>(machine, order, count, text, out)
+    issue_told(&mut Tracer, machine, order, count, text, out)
 }
 
 // The teller of a trace.
+#[derive(Drop)]
 struct Tracer;
 
 impl Teller for Tracer {
@@ -41,6 +42,7 @@ impl Teller for Tracer {
     ghost of_cycle = { traced_cycle };
 
     fn tell<M: Inspect, O: Sink>(
+        &mut self,
         machine: &mut Machine<M>,
         item: u8,
         text: &mut TextBuffer,

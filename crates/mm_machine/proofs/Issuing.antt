@@ -1,14 +1,19 @@
 -- The items of a list and then those of round robin, one cycle more at a time.
 use Rattle.std.proofs.Common.{◌≡◌, ℕ, ◌+◌, ◌-◌, ◌<◌, ◌≤◌, List, [], ◌∷◌, ◌++◌, length, take, get_or, Option, Some, None}
-use Rattle.std.proofs.Common.{inl, inr, refl, sym, ap, ◌∙◌, subst, arith, append-nil}
+use Rattle.std.proofs.Common.{false, true, inl, inr, refl, sym, ap, ◌∙◌, subst, arith, append-nil}
 use Rattle.std.{proofs.lemmas.{List.{take_more, take_all}, Bool.cases_lt}, specs.Option.option_or}
 use Rattle.mm_mem.specs.declared.memory.Memory.{Ghosts}
 use Rattle.mm_model.specs.{State.State, Uses.Use, declared.step.Step.Step}
 use Rattle.mm_model.specs.Run.{after, run, uses, turn_of, next_running, robin_from, last_item}
-use Rattle.mm_thread.specs.{declared.{told.Told.Told, watch.LastTurn.LastTurn}, Told.{told_of, shown}}
+use Rattle.mm_thread.specs.{declared.watch.LastTurn.LastTurn, Told.{There, Told, told_of, kind_of, other_in, keep, there_in}}
+use Rattle.mm_thread.specs.{declared.told.Kept.Kept, Told.{shown_in, shown}}
 use Rattle.mm_machine.specs.{declared.machine.Machine.Machine, Machine.{state_of, Takes}, Going.WentOn}
 use Rattle.mm_machine.proofs.Rounds.{one_more, robin_step, robin_over, robin_ends, robin_done}
 use Rattle.mm_machine.proofs.Went.{went_nowhere, went_further, last_more}
+
+-- what an observer becomes by the cycle of an item from a state
+abbrev pub watched : {W : Type 0} → (W → Step → W) → (W → Told → W) → W → State → ℕ → W
+watched tells looks w s n = tells (shown looks w (told_of s.core s.memory n)) (turn_of s n).step
 
 module _ {M : Type 0} {memory : Ghosts M} where
   -- the machine after this count of cycles, with the slot that round robin issued last
@@ -120,17 +125,13 @@ module _ {M : Type 0} {memory : Ghosts M} where
       over old now items behind robin count at so_far (omega (arith, all)) (robin_done (state_of now) robin (length items + count - at) (omega (arith, all)))
 
   module _ {W : Type 0} (tells : W → Step → W) (looks : W → Told → W) where
-    -- what an observer becomes by the cycle of an item from a state
-    abbrev pub watched : W → State → ℕ → W
-    watched w s n = tells (shown looks w (told_of s.core s.memory n)) (turn_of s n).step
-
     -- before the first cycle the observer is as it was, and an item that is issued alone was watched
     pub record IsWatched (w : W) (old : Machine M memory) (items : List ℕ) (count at : ℕ) (watch : W) : Type 0 where
       pub begins : at ≡ 0 → watch ≡ w
-      pub alone : (n : ℕ) → items ≡ n ∷ [] → count ≡ 0 → at ≡ 1 → watch ≡ watched w (state_of old) n
+      pub alone : (n : ℕ) → items ≡ n ∷ [] → count ≡ 0 → at ≡ 1 → watch ≡ watched tells looks w (state_of old) n
 
     pub cycle_watched : (w : W) (old mid : Machine M memory) (items : List ℕ) (behind robin : Option ℕ) (count at n : ℕ) (before watch : W) → IsAt old mid items behind count at robin
-        → IsWatched w old items count at before → (at < length items → Some n ≡ Some (get_or items at 0)) → watch ≡ watched before (state_of mid) n
+        → IsWatched w old items count at before → (at < length items → Some n ≡ Some (get_or items at 0)) → watch ≡ watched tells looks before (state_of mid) n
         → IsWatched w old items count (at + 1) watch
     unfolding run
     cycle_watched w old mid items behind robin count at n before watch so_far was listed is = record {
@@ -144,8 +145,8 @@ module _ {M : Type 0} {memory : Ghosts M} where
           let item : get_or items at 0 ≡ m = ap (λ (k : ℕ). get_or items k 0) begin ∙ ap (λ (xs : List ℕ). get_or xs 0 0) one in
           let given : Some n ≡ Some (get_or items at 0) = listed inside in
           let number : n ≡ get_or items at 0 = cc in
-          is ∙ ap (λ (v : W). watched v (state_of mid) n) (was.begins begin)
-          ∙ ap (λ (s : State). watched w s n) state ∙ ap (watched w (state_of old)) (number ∙ item);
+          is ∙ ap (λ (v : W). watched tells looks v (state_of mid) n) (was.begins begin)
+          ∙ ap (λ (s : State). watched tells looks w s n) state ∙ ap (watched tells looks w (state_of old)) (number ∙ item);
     }
 
   -- one item alone
@@ -175,6 +176,13 @@ module _ {M : Type 0} {memory : Ghosts M} where
   robin_of old new behind last count went is = (went, is)
 
 -- what an observer that keeps what it was shown has kept
-pub told_kept : (step : Step) (o : Option Told) → (shown (λ (w : LastTurn) (b : Told). record w { told = Some b }) (record { step = step; told = None }) o).told ≡ o
-told_kept step None = refl
-told_kept step (Some b) = refl
+
+there_kept : (w : Kept) (x : There) → there_in (kind_of x) (other_in w.other x) ≡ x
+there_kept w There.Nothing = refl
+there_kept w (There.CellAt a c) = refl
+there_kept w (There.PageAt p b) = refl
+there_kept w (There.SlotAt o) = refl
+
+pub told_kept : (w : LastTurn) → w.shown ≡ false → (o : Option Told) → shown_in (shown (λ (v : LastTurn) (b : Told). record v { shown = true; kept = keep v.kept b }) w o) ≡ o
+told_kept w none None = rw none refl
+told_kept w none (Some b) = ap (λ (x : There). Some (record b { there = x })) (there_kept w.kept b.there)

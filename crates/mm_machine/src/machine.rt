@@ -305,21 +305,21 @@ impl<M: Inspect> Machine<M> {
     ghost use Rattle.mm_model.specs.Image.{Image as ImageValue};
     ghost use Rattle.mm_model.specs.Run.{turn_of, after};
     ghost use Rattle.mm_machine.specs.Machine.{state_of, ports_used, StandsFor};
-    ghost use Rattle.mm_thread.specs.Told.{told_of};
+    ghost use Rattle.mm_thread.specs.Told.{told_of, shown_in};
 
     /// Does what [`Machine::cycle`] does, and writes with the step what the turn could change, as it was before the turn.
     pub fn cycle_shown(&mut self, item: u8, last: &mut LastTurn)
         requires { (state_of self.old).cycles < 2 ^ 32 }
         ensures state { state_of self.new ≡ after (state_of self.old) item }
         ensures step { last.new.step ≡ (turn_of (state_of self.old) item).step }
-        ensures told { last.new.told ≡ told_of (state_of self.old).core (state_of self.old).memory item }
+        ensures told { shown_in last.new ≡ told_of (state_of self.old).core (state_of self.old).memory item }
 
         // The machine after one item more, from the machine after any items of an image.
         ensures runs { (i : ImageValue) (items : List ℕ) → StandsFor i items self.old
             → StandsFor i (items ++ item ∷ []) self.new }
         ensures ports { ports_used self.new ≡ ports_used self.old }
     {
-        last.told = None;
+        last.shown = false;
         self.issue(&[item], None, 0, last);
     }
 }

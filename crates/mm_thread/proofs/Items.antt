@@ -9,7 +9,7 @@ use Rattle.mm_model.specs.Turn.{Turned, idle, arrives, port_of, taken_by, taken_
 use Rattle.mm_model.{specs.Fits.{IsCore, slots_of}, proofs.{CoreRows.slot_has, SlotSteps.delivered_from}}
 use Rattle.mm_thread.specs.SlotIndices.{no_row, slot_in, with_slot, first_register}
 use Rattle.mm_thread.specs.{Execution.{CanTurn, TakesTurn, AsksNothing}, Tables.AreNumbered}
-use Rattle.mm_thread.specs.{declared.told.Told.Told, Told.{told_at, comes_to, told_by_port, told_by, told_of, shown}}
+use Rattle.mm_thread.specs.{Told.{Told, told_at, comes_to, told_by_port, told_by, told_of, shown}}
 use Rattle.mm_thread.proofs.{RowIndex.apart_in, Index.{slot_found, put_slot-at}}
 
 abbrev pub step_of : Tick → ℕ → Step

@@ -18,7 +18,7 @@ use Rattle.mm_model.specs.Effect.{Reply, Change, Effect, effect, plain, sets, se
 use Rattle.mm_model.specs.Effect.{test, same_word, high_and_low, puts_out, loaded, stored, at_distance, branches, jumps}
 use Rattle.mm_model.specs.Effect.{links, takes, resumed_by, resumes, delivers, delivered, reads_of, writes_of, maps}
 use Rattle.mm_model.specs.Effect.{unmaps}
-use Rattle.mm_model.specs.Effect.Reply.{Fine, Refused, Got, Paged, NoEvent, Took, Served}
+use Rattle.mm_model.specs.Effect.Reply.{Fine, Refused, Got, Paged, Took, Served}
 use Rattle.mm_model.specs.Effect.Effect.{Fault, Block, Deliver, Do}
 use Rattle.mm_model.specs.Turn.{put_all, state_after, with_issue, slot_after}
 use Rattle.mm_thread.specs.Told.{oldest, other_registers}
@@ -216,7 +216,7 @@ read_keeps s split rd reg _ = tt
 
 write_keeps : (s : Slot) (split : Bool) (reg : ℕ) (w : Word) (r : Reply)
     → RowKeeps [] (λ of. if split && is_empty of reg then oldest of.pending else reg ∷ []) r (writes_of split s reg w r)
-unfolding plain register
+unfolding plain register is_empty
 write_keeps s split reg w (Served of) = by (split && is_empty of reg) refl
   where
     spared : (k : ℕ) (b : Bool) → (split && is_empty of reg) ≡ b → Spares (if split && is_empty of reg then oldest of.pending else reg ∷ []) k

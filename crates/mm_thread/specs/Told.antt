@@ -9,8 +9,9 @@ use Rattle.mm_model.specs.declared.{event.Event.Event, slot.Pending.Pending}
 use Rattle.mm_model.specs.{Memory.{Memory, cell_at}, Slot.{Slot, register, is_empty}, State.{Core, slot_at, queue_at, output_of}}
 use Rattle.mm_model.specs.Ask.{Ask, ask, Ask.{Reach, MapPage, UnmapPage, NextEvent, Serve}}
 use Rattle.mm_model.specs.{Operands.{fields_d, lacks, addr_operand, value_operand}, Turn.{instr_in, is_running, port_of, event_of}}
-use Rattle.mm_thread.specs.declared.told.{Held.Held, Was.Was, There.There, Told.Told}
-use Rattle.mm_thread.specs.declared.told.There.TheVariants as there
+use Rattle.mm_thread.specs.declared.told.{Held.Held, Was.Was, Beside.Beside, Kept.Kept}
+use Rattle.mm_thread.specs.declared.watch.LastTurn.{LastTurn}
+use Rattle.mm_thread.specs.declared.told.Beside.TheVariants as beside
 
 -- 1. Slots.
 
@@ -42,39 +43,58 @@ other_registers split _ of = []
 
 -- 2. What an instruction asks for besides its slot.
 
+pub data There : Type 0 where
+  Nothing : There
+  -- the cell of an access
+  CellAt : (access : AccessValue) (cell : Cell) → There
+  -- a page, and whether it is mapped
+  PageAt : (page : ℕ) (mapped : Bool) → There
+  -- the slot that the instruction serves, or that of the event that it reads
+  SlotAt : (was : Was) → There
+
 abbrev pub cell_there : AccessValue → Option Cell → There
-cell_there a None = there.Nothing
-cell_there a (Some c) = there.Cell a c
+cell_there a None = There.Nothing
+cell_there a (Some c) = There.CellAt a c
 
 abbrev pub slot_there : Bool → Instr → Option Slot → There
-slot_there split i None = there.Nothing
-slot_there split i (Some of) = there.Slot (was_of of (other_registers split i of))
+slot_there split i None = There.Nothing
+slot_there split i (Some of) = There.SlotAt (was_of of (other_registers split i of))
 
 -- whether the first cell of a page is there
 abbrev pub has_page : Memory → ℕ → Bool
 has_page m p = is_some (cell_at m (p * 4096))
 
 abbrev pub page_there : Memory → Result ℕ Cause → There
-page_there m (Err c) = there.Nothing
-page_there m (Ok p) = there.Page p (has_page m p)
+page_there m (Err c) = There.Nothing
+page_there m (Ok p) = There.PageAt p (has_page m p)
 
 -- the slot of the oldest event
 abbrev pub event_there : Core → Instr → List Event → There
-event_there core i [] = there.Nothing
+event_there core i [] = There.Nothing
 event_there core i (e ∷ rest) = slot_there core.split i (slot_at core e.slot)
 
 abbrev pub there_at : Core → Memory → ℕ → Instr → Ask → There
 there_at core m n i (Reach a pre) = cell_there a (cell_at m a.addr)
-there_at core m n i (MapPage p) = there.Page p (has_page m p)
-there_at core m n i (UnmapPage p) = there.Page p (has_page m p)
+there_at core m n i (MapPage p) = There.PageAt p (has_page m p)
+there_at core m n i (UnmapPage p) = There.PageAt p (has_page m p)
 there_at core m n i (Serve k) = slot_there core.split i (slot_at core k)
 there_at core m n i NextEvent = event_there core i (queue_at core n)
-there_at core m n i _ = there.Nothing
+there_at core m n i _ = There.Nothing
 
 abbrev pub there_for : Core → Memory → Slot → Instr → There
 there_for core m s i = there_at core m s.number i (ask i s)
 
 -- 3. The turn.
+
+-- what the turn of a slot can change, as it is before the turn
+pub record Told : Type 0 where
+  pub own : Was
+  pub group : ℕ
+  -- the instruction that the turn comes to, if it comes to one
+  pub instr : Option Instr
+  pub there : There
+  -- the number of bytes that the slot's group has put out
+  pub output : ℕ
 
 -- a turn that comes to no instruction, or whose instruction waits for a load: the slot's oldest load may be delivered
 abbrev pub told_waiting : Core → Slot → Option Instr → Told
@@ -82,7 +102,7 @@ told_waiting core s instr = record {
   own = was_of s (oldest s.pending);
   group = s.group;
   instr = instr;
-  there = there.Nothing;
+  there = There.Nothing;
   output = length (output_of core s.group);
 }
 
@@ -138,3 +158,46 @@ told_of core m n = told_by core m n (slot_at core n)
 abbrev pub shown : {W : Type 0} → (W → Told → W) → W → Option Told → W
 shown looks w None = w
 shown looks w (Some told) = looks w told
+
+-- 4. What is kept of it: in place, so that the other slot stays as it was kept before where there is none.
+
+abbrev pub kind_of : There → Beside
+kind_of There.Nothing = beside.Nothing
+kind_of (There.CellAt a c) = beside.Cell a c
+kind_of (There.PageAt p b) = beside.Page p b
+kind_of (There.SlotAt w) = beside.Slot
+
+abbrev pub other_in : Was → There → Was
+other_in old There.Nothing = old
+other_in old (There.CellAt a c) = old
+other_in old (There.PageAt p b) = old
+other_in old (There.SlotAt w) = w
+
+abbrev pub keep : Kept → Told → Kept
+keep old told = record {
+  own = told.own;
+  group = told.group;
+  instr = told.instr;
+  beside = kind_of told.there;
+  other = other_in old.other told.there;
+  output = told.output;
+}
+
+abbrev pub there_in : Beside → Was → There
+there_in beside.Nothing other = There.Nothing
+there_in (beside.Cell a c) other = There.CellAt a c
+there_in (beside.Page p b) other = There.PageAt p b
+there_in beside.Slot other = There.SlotAt other
+
+-- what is kept tells what was shown
+abbrev pub told_in : Kept → Told
+told_in k = record {
+  own = k.own;
+  group = k.group;
+  instr = k.instr;
+  there = there_in k.beside k.other;
+  output = k.output;
+}
+
+abbrev pub shown_in : LastTurn → Option Told
+shown_in w = if w.shown then Some (told_in w.kept) else None

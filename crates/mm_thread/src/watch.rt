@@ -1,7 +1,7 @@
 //! Observers of turns. A turn is generic over its observer, so that one that does nothing leaves no instruction.
 
 use crate::tables::Tables;
-use crate::told::{Told, look_at};
+use crate::told::{Kept, look_at};
 use mm_isa::Instr;
 use mm_mem::{Inspect, Memory};
 use mm_model::Step;
@@ -13,8 +13,7 @@ pub trait Watch<M: Memory> {
     ghost use Rattle.mm_model.specs.declared.step.Step.{Step as StepValue};
     ghost use Rattle.mm_model.specs.Fits.{IsCore};
     ghost use Rattle.mm_thread.specs.SlotIndices.{slot_in};
-    ghost use Rattle.mm_thread.specs.declared.told.Told.{Told};
-    ghost use Rattle.mm_thread.specs.Told.{told_at};
+    ghost use Rattle.mm_thread.specs.Told.{Told, told_at};
 
     /// The observer after it was shown what a turn can change.
     ghost looks: { Self → Told → Self };
@@ -77,19 +76,38 @@ impl<M: Memory> Watch<M> for LastStep {
 pub struct LastTurn {
     /// The step of the last turn.
     pub step: Step,
-    /// What the last turn of a slot could change, as it was before the turn.
-    pub told: Option<Told>,
+    /// Whether a turn was shown.
+    pub shown: bool,
+    /// What the last turn that was shown could change, as it was before that turn.
+    pub kept: Kept,
+}
+
+impl LastTurn {
+    ghost use Rattle.std.specs.Prelude.{◌≡◌, false};
+
+    /// A place for what is kept of turns. None was shown yet.
+    pub fn new() -> LastTurn
+        ensures { result.shown ≡ false }
+    {
+        LastTurn {
+            step: Step::idle(0),
+            shown: false,
+            kept: Kept::new(),
+        }
+    }
 }
 
 impl<M: Inspect> Watch<M> for LastTurn {
-    ghost use Rattle.std.specs.Prelude.{Some};
+    ghost use Rattle.std.specs.Prelude.{true};
+    ghost use Rattle.mm_thread.specs.Told.{keep};
 
-    ghost looks = { λ w told. record w { told = Some told } };
+    ghost looks = { λ w told. record w { shown = true; kept = keep w.kept told } };
 
     ghost tells = { λ w step. record w { step = step } };
 
     fn look(&mut self, tables: &Tables, slot_index: usize, mem: &M, instr: Option<Instr>) {
-        self.told = Some(look_at(tables, slot_index, mem, instr));
+        self.shown = true;
+        look_at(&mut self.kept, tables, slot_index, mem, instr);
     }
 
     fn tell(&mut self, step: Step) {
