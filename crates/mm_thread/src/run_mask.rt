@@ -1,7 +1,8 @@
 //! The set of running slots: bit n is set if slot n runs.
 
-ghost use Rattle.std.specs.Prelude.{◌≡◌, ◌<◌};
+ghost use Rattle.std.specs.Prelude.{◌≡◌, ◌<◌, true};
 ghost use Rattle.std.specs.Int.{bit_at};
+ghost use Rattle.mm_model.specs.Turn.{is_running};
 ghost use Rattle.mm_thread.specs.Tables.{AreNumbered, HasRunners, IsNoted};
 
 use crate::item::is_running;
@@ -47,7 +48,7 @@ pub(crate) fn ran_on(runners: u64, slot: &Slot) -> u64
 /// The set without a slot that does not run.
 #[cold]
 #[inline(never)]
-pub(crate) fn without(runners: u64, slot: &Slot) -> u64
+fn without(runners: u64, slot: &Slot) -> u64
     requires { slot.now.number < 64 }
     ensures { IsNoted runners result slot.now }
 {

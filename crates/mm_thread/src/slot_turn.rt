@@ -1,6 +1,9 @@
 //! The turn of a slot, from its fetch to its end.
 
-ghost use Rattle.std.specs.Prelude.{◌≡◌, ◌+◌, ◌<◌, ◌^◌, ◌&&◌, true, false, length, None, Some, IfSome, is_some, [], ◌∷◌};
+ghost use Rattle.std.specs.Prelude.{◌≡◌, ◌+◌, ◌<◌, ◌^◌, ◌&&◌, true, false, length, None, Some, Ok, Err, IfSome, is_some, [], ◌∷◌};
+ghost use Rattle.std.specs.Result.{IsOk, IsErr};
+ghost use Rattle.mm_word.specs.declared.cause.Cause.{Cause};
+ghost use Rattle.mm_word.specs.Access.{AccessValue};
 ghost use Rattle.mm_word.specs.declared.word.Cell.{Cell};
 ghost use Rattle.mm_isa.specs.declared.instr.Instr.{Instr};
 ghost use Rattle.mm_isa.specs.Decode.{instr_of};
@@ -10,7 +13,7 @@ ghost use Rattle.mm_model.specs.Operands.{addr_operand, value_operand, lacks};
 ghost use Rattle.mm_model.specs.Turn.{issued, fetched, started, core_faulted, event_of, tick_faulted};
 ghost use Rattle.mm_thread.specs.SlotIndices.{slot_in};
 ghost use Rattle.mm_thread.specs.Told.{told_at, in_cell, comes_to};
-ghost use Rattle.mm_thread.specs.Execution.{CanTurn, CanEnd, TakesTurn, core_ended, step_ended};
+ghost use Rattle.mm_thread.specs.Execution.{CanTurn, CanEnd, TakesTurn, fetch_of, core_ended, step_ended};
 
 use crate::completion::{Completion, Retired};
 use crate::execute::execute;
@@ -61,6 +64,20 @@ fn fail_check<M: Memory, W: Watch<M>>(
     mem: &M,
     watch: &mut W,
 )
+    requires can { CanTurn tables.old slot_index }
+    requires refused { IsErr (fetch_of (slot_in tables.old slot_index)) }
+    ensures core { let s = slot_in tables.old slot_index in
+        (cause : Cause) → fetch_of s ≡ Err cause
+        → tables.new ≡ core_faulted tables.old s (event_of s cause (Word.Int 0) (Word.Int 0)) s.handler }
+    ensures watch { let s = slot_in tables.old slot_index in
+        (cause : Cause) → fetch_of s ≡ Err cause
+        → watch.new ≡ W.tells (W.looks watch.old (told_at tables.old (M.meaning mem.now) s None)) (record {
+          tick = tick_faulted cause s.handler;
+          slot = s.number;
+          fetched = None;
+          touched = None;
+          entered = None;
+        }) }
 {
     let slot = tables.slot(slot_index);
     let Err(cause) = check(Word::Ptr(slot.ip), 0, Kind::Fetch) else {
@@ -98,7 +115,7 @@ fn fail_fetch<M: Memory, W: Watch<M>>(
     tell_step::<M, W>(watch, tick, number, fetched);
 }
 
-/// Ends a turn by a fault after the fetch's check.
+/// Ends a turn by a fault before an instruction is known, once the fetch has passed its check.
 #[cold]
 #[inline(never)]
 fn fail_fetched<M: Memory, W: Watch<M>>(
@@ -108,13 +125,30 @@ fn fail_fetched<M: Memory, W: Watch<M>>(
     cause: Cause,
     watch: &mut W,
 )
+    requires can { CanTurn tables.old slot_index }
+    requires passed { IsOk (fetch_of (slot_in tables.old slot_index)) }
+    ensures core { let s = slot_in tables.old slot_index in
+        tables.new ≡ core_faulted tables.old s (event_of s cause (Word.Int 0) (Word.Int 0)) s.handler }
+    ensures watch { let s = slot_in tables.old slot_index in
+        (access : AccessValue) → fetch_of s ≡ Ok access
+        → watch.new ≡ W.tells (W.looks watch.old (told_at tables.old (M.meaning mem.now) s None)) (record {
+          tick = tick_faulted cause s.handler;
+          slot = s.number;
+          fetched = Some access;
+          touched = None;
+          entered = None;
+        }) }
 {
     let access = fetch_access(tables, slot_index);
     fail_fetch(tables, slot_index, mem, cause, Some(access), watch);
 }
 
 /// The access of the fetch of a slot whose instruction pointer passes its check.
-fn fetch_access(tables: &Tables, slot_index: usize) -> Access {
+fn fetch_access(tables: &Tables, slot_index: usize) -> Access
+    requires within { slot_index < length tables.now.rows }
+    requires passed { IsOk (fetch_of (slot_in tables.now slot_index)) }
+    ensures { fetch_of (slot_in tables.now slot_index) ≡ Ok result }
+{
     let slot = tables.slot(slot_index);
     let Ok(access) = check(Word::Ptr(slot.ip), 0, Kind::Fetch) else {
         unreachable!();
@@ -134,6 +168,7 @@ fn fetch<M: Memory, W: Watch<M>>(
     requires can { CanTurn tables.old slot_index }
     requires room { M.uses mem.old < 2 ^ 61 }
     requires kind { access.kind ≡ Kind.Fetch }
+    requires passed { fetch_of (slot_in tables.old slot_index) ≡ Ok access }
     ensures { let s = slot_in tables.old slot_index in
         let m = M.meaning mem.old in
         TakesTurn M.meaning M.uses M.stands W.tells
@@ -149,10 +184,7 @@ fn fetch<M: Memory, W: Watch<M>>(
         return;
     };
     match likely(tables, bits) {
-        Some(instr) => {
-            watch.look(tables, slot_index, mem, Some(instr));
-            carry::<M, W>(tables, slot_index, mem, access, bits, instr, watch);
-        }
+        Some(instr) => issue(tables, slot_index, mem, access, bits, instr, watch),
         None => read_on(tables, slot_index, mem, bits, watch),
     }
 }
@@ -160,7 +192,7 @@ fn fetch<M: Memory, W: Watch<M>>(
 /// The instruction of a word, if the machine is not split and the instruction is one that most words spell.
 #[inline(always)]
 fn likely(tables: &Tables, bits: u64) -> Option<Instr>
-    ensures { IfSome result (λ i. (tables.now.split ≡ false) × (instr_of bits ≡ Some i)) }
+    ensures { IfSome result (λ i. instr_of bits ≡ Some i) }
 {
     if tables.split() { None } else { common(bits) }
 }
@@ -177,10 +209,12 @@ fn read_on<M: Memory, W: Watch<M>>(
 )
     requires can { CanTurn tables.old slot_index }
     requires room { M.uses mem.old < 2 ^ 62 }
-    ensures { (before : M) (cell : Cell) → let m = M.meaning before in
+    requires passed { IsOk (fetch_of (slot_in tables.old slot_index)) }
+    ensures { (before : M) (access : AccessValue) (cell : Cell) → let m = M.meaning before in
+        let s = slot_in tables.old slot_index in
         let us = Accessed access.kind access.addr true true ∷ [] in
-        TakesUses M.stands before mem.old us → M.meaning mem.old ≡ m → M.uses mem.old ≡ M.uses before + accesses us
-        → cell.word ≡ Word.Int bits → let s = slot_in tables.old slot_index in
+        fetch_of s ≡ Ok access → TakesUses M.stands before mem.old us → M.meaning mem.old ≡ m
+        → M.uses mem.old ≡ M.uses before + accesses us → cell.word ≡ Word.Int bits →
         TakesTurn M.meaning M.uses M.stands W.tells
         (W.looks watch.old (told_at tables.old m s (in_cell (Some cell))))
         (fetched tables.old m s access (Some cell)) before mem.new tables.new watch.new }
@@ -220,30 +254,6 @@ fn issue<M: Memory, W: Watch<M>>(
         tell_step::<M, W>(watch, Tick::Blocked, number, Some(access));
         return;
     }
-    carry::<M, W>(tables, slot_index, mem, access, bits, instr, watch);
-}
-
-/// Carries out an instruction that waits for no register, which the observer was shown, and ends the turn.
-#[inline(always)]
-fn carry<M: Memory, W: Watch<M>>(
-    tables: &mut Tables,
-    slot_index: usize,
-    mem: &mut M,
-    access: Access,
-    bits: u64,
-    instr: Instr,
-    watch: &mut W,
-)
-    requires can { CanTurn tables.old slot_index }
-    requires spelled { instr_of bits ≡ Some instr }
-    requires free { (tables.old.split && lacks instr (slot_in tables.old slot_index)) ≡ false }
-    requires room { M.uses mem.old < 2 ^ 62 }
-    ensures { (before : M) (u : Use) → TakesUses M.stands before mem.old (u ∷ []) → M.meaning mem.old ≡ M.meaning before
-        → M.uses mem.old ≡ M.uses before + accesses (u ∷ []) → let s = slot_in tables.old slot_index in
-        TakesTurn M.meaning M.uses M.stands W.tells watch.old
-        (issued tables.old (M.meaning before) s access u instr) before mem.new tables.new watch.new }
-{
-    let number = tables.slot(slot_index).number;
     let retired = execute(tables, slot_index, mem, &instr);
     end::<M, W>(tables, slot_index, bits, retired, number, access, watch);
 }

@@ -21,10 +21,9 @@ ghost use Rattle.mm_thread.specs.SlotIndices.{first_register, event_writes};
 use crate::build::index_of;
 use crate::carry_out::carry_out;
 use crate::group_output::GroupOutput;
-use crate::item::is_running;
 use crate::local_ops::Entered;
 use crate::row::ThreadRow;
-use crate::run_mask::{noted, ran_on, runners_of, without};
+use crate::run_mask::{keep_running, noted, ran_on, runners_of};
 use crate::slot::{advance, deliver, issue, resume, set_register, sets, stand, take_event};
 use mm_isa::{EvtReg, How, Instr, Reg};
 use mm_model::{Event, Slot, SlotState, output_limit};
@@ -264,9 +263,7 @@ impl Tables {
         let row = &mut self.rows[slot_index];
         let slot = &mut row.slot;
         let entered = carry_out(slot, instr);
-        if !is_running(slot) {
-            self.runners = without(self.runners, slot);
-        }
+        self.runners = keep_running(self.runners, slot);
         entered
     }
 

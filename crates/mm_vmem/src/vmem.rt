@@ -122,11 +122,10 @@ impl VMem {
             (state_at (line_states self.old.lines) (line_of (block_of word))) (block_of word)
             (pages_in self.old.entries) self.old.numbers) }
     {
-        if self.bring_mapped(word / 64) {
-            self.lines.cell(word)
-        } else {
-            None
+        if !self.bring_mapped(word / 64) {
+            return None;
         }
+        self.lines.cell(word)
     }
 
     /// Brings a block into its line, which does not have it. `false`, and nothing is brought, if its page is not mapped. It

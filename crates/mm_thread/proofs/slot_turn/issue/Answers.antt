@@ -1,7 +1,7 @@
-use Rattle.std.proofs.Common.{Some, None, sym, ap, ◌∙◌, subst}
-use Rattle.mm_model.specs.{Slot.Slot, Memory.Memory, Turn.issued, declared.step.Tick.TheVariants.Blocked}
-use Rattle.mm_thread.specs.{SlotIndices.slot_in, Execution.TakesTurn, Told.told_at}
-use Rattle.mm_thread.proofs.{Cores.registers_small, Turns.{issued_waits, turns-delivered}}
+use Rattle.std.proofs.Common.{ℕ, Some, None, is_some, sym, ap, ◌∙◌}
+use Rattle.mm_model.specs.{Slot.Slot, Memory.Memory, declared.step.Tick.TheVariants.Blocked}
+use Rattle.mm_thread.specs.{SlotIndices.slot_in, Execution.step_ended, Told.told_at}
+use Rattle.mm_thread.proofs.{Cores.registers_small, Turns.{can_end, issued_gives, issued_waits, turns-delivered}}
 use Rattle.mm_thread.proofs.slot_turn.issue.Goals as goal
 
 pub deliver-register-requires-clause-registers : goal.deliver-register-requires-clause-registers
@@ -25,13 +25,24 @@ returns-then-must_wait g c = λ before u first same counted.
     c.behind-tables.inside.number c.deliver-register.ensures.slot c.stand.ensures number
     (c.tell_step.ensures ∙ ap (λ v. tells v (record { tick = Blocked; slot = c.behind-tables.inside.number; fetched = Some a.access; touched = None; entered = None })) seen)
 
+pub end-requires-clause-spelled : goal.end-requires-clause-spelled
+end-requires-clause-spelled g c = ap is_some c.requires.spelled
+
+pub end-requires-clause-can : goal.end-requires-clause-can
+end-requires-clause-can g c =
+    let a = c.args in
+    can_end a.tables.now a.slot_index c.requires.can (g.M.Memory.meaning a.mem.now) _ c.execute-retired.new.tables
+    (g.M.Memory.meaning c.execute-retired.new.mem) c.execute-retired.result.completion c.execute-retired.ensures.leaves
+
 pub returns : goal.returns
 returns g c = λ before u first same counted.
     let a = c.args in
-    let s = slot_in a.tables.now a.slot_index in
+    let number = ap (λ (x : Slot). x.number) (c.behind-tables.view_is ∙ c.slot.ensures) in
     let tells = g.W.Watch.tells in
-    let told = λ (m : Memory). g.W.Watch.looks a.watch.now (told_at a.tables.now m s (Some a.instr)) in
+    let told = λ (m : Memory). g.W.Watch.looks a.watch.now (told_at a.tables.now m (slot_in a.tables.now a.slot_index) (Some a.instr)) in
     let seen = c.look.ensures ∙ ap told same in
-    subst (λ v. TakesTurn g.M.Memory.meaning g.M.Memory.uses g.M.Memory.stands tells v
-        (issued a.tables.now (g.M.Memory.meaning before) s a.access u a.instr) before c.carry.new.mem c.carry.new.tables c.carry.new.watch) seen
-    (c.carry.ensures before u first same counted)
+    let step = λ (n : ℕ). step_ended n (slot_in c.execute-retired.new.tables a.slot_index) (Some a.access) c.execute-retired.result.touched c.execute-retired.result.completion in
+    issued_gives g.M.Memory.meaning g.M.Memory.uses g.M.Memory.stands tells (told (g.M.Memory.meaning before)) a.tables.now a.slot_index c.requires.can a.access u a.instr before a.mem.now first same counted
+    (sym c.must_wait.ensures ∙ c.if-must_wait.false) c.execute-retired.new.mem c.execute-retired.new.tables c.end.new.tables c.execute-retired.result c.end.new.watch
+    c.execute-retired.ensures (c.end.ensures.core a.instr c.requires.spelled)
+    (c.end.ensures.watch ∙ ap (λ v. tells v (step c.behind-tables.inside.number)) seen ∙ ap (λ (n : ℕ). tells (told (g.M.Memory.meaning before)) (step n)) number)

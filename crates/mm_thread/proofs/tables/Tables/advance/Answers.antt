@@ -1,10 +1,10 @@
 use Rattle.std.{proofs.Common.{◌<◌, length, ap, ◌∙◌, arith, refl}, specs.Int.bit_at}
 use Rattle.mm_model.specs.{Flags.one_if, Turn.is_running, Slot.Slot, State.Core}
-use Rattle.mm_thread.{specs.SlotIndices.slot_in, proofs.RunningSlots.{after_number, after_running, slot_there, known_set}}
+use Rattle.mm_thread.{specs.SlotIndices.slot_in, proofs.RunningSlots.{after_number, after_running, plain_goes, slot_there, known_set}}
 use Rattle.mm_thread.proofs.tables.Tables.advance.Goals as goal
 
 pub ran_on-self-inside-requires-clause-runs : goal.ran_on-self-inside-requires-clause-runs
-ran_on-self-inside-requires-clause-runs c = ap (λ (s : Slot). is_running s.state) c.advance.ensures ∙ after_running _ _ refl
+ran_on-self-inside-requires-clause-runs c = ap (λ (s : Slot). is_running s.state) c.advance.ensures ∙ after_running _ _ (plain_goes c.row.inside.slot)
 
 pub ran_on-self-inside-requires-clause-ran : goal.ran_on-self-inside-requires-clause-ran
 ran_on-self-inside-requires-clause-ran c =
