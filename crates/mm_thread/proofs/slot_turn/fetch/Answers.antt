@@ -1,5 +1,5 @@
 use Rattle.std.proofs.Common.{◌≡◌, [], ◌∷◌, true, false, Some, None, sym, ap, ◌∙◌}
-use Rattle.mm_word.specs.declared.{cause.Cause.TheVariants.{NoPage, Illegal}, word.Word.TheVariants.{Int, Ptr}}
+use Rattle.mm_word.specs.declared.{cause.Cause.TheVariants.{NoPage, Illegal}}
 use Rattle.mm_model.specs.{Memory.{Memory, cell_at}, Uses.Accessed, Turn.instr_in}
 use Rattle.mm_thread.specs.{SlotIndices.slot_in, Told.told_at}
 use Rattle.mm_thread.proofs.Turns.{faults_give, fetched-none, fetched-some}

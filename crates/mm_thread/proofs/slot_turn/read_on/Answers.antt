@@ -1,4 +1,4 @@
-use Rattle.std.proofs.Common.{◌≡◌, [], ◌∷◌, true, Some, None, Result, Ok, sym, ap, subst, ◌∙◌}
+use Rattle.std.proofs.Common.{◌≡◌, [], ◌∷◌, true, Some, None, sym, ap, subst, ◌∙◌}
 use Rattle.mm_word.specs.{declared.cause.Cause.TheVariants.Illegal, Access.AccessValue}
 use Rattle.mm_model.specs.{declared.step.Step.Step, Memory.Memory, Uses.Accessed, Turn.{instr_in, issued, tick_faulted}}
 use Rattle.mm_thread.specs.{SlotIndices.slot_in, Execution.{TakesTurn, fetch_of}, Told.told_at}

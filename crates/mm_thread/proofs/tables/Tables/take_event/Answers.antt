@@ -1,4 +1,4 @@
-use Rattle.std.{proofs.Common.{◌<◌, length, ap, ◌∙◌, arith, refl}, specs.Int.bit_at}
+use Rattle.std.{proofs.Common.{◌<◌, length, ap, ◌∙◌, arith}, specs.Int.bit_at}
 use Rattle.mm_model.specs.{Flags.one_if, Turn.is_running, Slot.Slot, State.Core}
 use Rattle.mm_thread.{specs.SlotIndices.slot_in, proofs.RunningSlots.{after_number, after_running, plain_goes, slot_there, known_set}}
 use Rattle.mm_thread.proofs.tables.Tables.take_event.Goals as goal
