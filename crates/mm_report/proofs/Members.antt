@@ -1,5 +1,5 @@
 -- The slots of a group among all slots, and the groups that have a slot among all groups.
-use Rattle.std.proofs.Common.{◌≡◌, ℕ, zero, suc, ◌+◌, ◌<◌, ◌==◌, Bool, true, false, ◌||◌, if◌then◌else◌, List, [], ◌∷◌}
+use Rattle.std.proofs.Common.{◌≡◌, ℕ, ◌+◌, ◌<◌, ◌==◌, Bool, true, false, ◌||◌, if◌then◌else◌, List, [], ◌∷◌}
 use Rattle.std.proofs.Common.{◌++◌, length, map, take, get_or, Some, slice_get, refl, ap, ◌∙◌}
 use Rattle.std.proofs.lemmas.{List.Folds.list_any_more, Option.get_or_from_slice_get}
 use Rattle.std.specs.List.{flat_map, filter, list_any}

@@ -1,6 +1,6 @@
 //! The line of a cycle in a trace.
 
-ghost use Rattle.std.specs.Prelude.{◌++◌, codes, decimal};
+ghost use Rattle.std.specs.Prelude.{◌≡◌, ◌+◌, ◌≤◌, ◌++◌, codes, decimal, length};
 ghost use Rattle.mm_io.specs.Sinks.{Writes};
 ghost use Rattle.mm_text.specs.Appends.{Appends};
 ghost use Rattle.mm_model.specs.Trace.{kind_text, touch_text, enter_text, turn_line, step_line};
@@ -8,8 +8,8 @@ ghost use Rattle.mm_report.specs.Outcomes.{outcome_text};
 
 use mm_io::{Sink, WriteFault};
 use mm_model::{Step, Tick};
-use mm_text::{Piece, TextBuffer, put_word};
-use mm_word::{Access, GuardedPtr, Kind, Word};
+use mm_text::{Line, Piece, TextBuffer};
+use mm_word::{Access, GuardedPtr, Kind};
 
 /// Writes the line of a cycle in a trace:
 ///
@@ -58,75 +58,85 @@ fn put_delivery<O: Sink>(text: &mut TextBuffer, out: &mut O, slot: u8, register:
     );
 }
 
-/// Appends the line of a turn.
+/// Appends the line of a turn. The text is put together from its end, and given at once.
+#[tactic(auto, using(mm_text::proofs::LineLengths::line_lengths))]
 fn put_turn<O: Sink>(text: &mut TextBuffer, out: &mut O, step: &Step, turn: u64)
     ensures { Appends O.taken O.faults out.old out.new text.old text.new
         (turn_line turn step.now (outcome_text step.now.tick)) }
 {
-    text.put(
-        out,
-        &[
-            Piece::Text("t "),
-            Piece::Decimal(step.slot as u64),
-            Piece::Text(" "),
-            Piece::Decimal(turn),
-            Piece::Text(" "),
-        ],
-    );
-    put_outcome(text, out, step.tick);
-    put_touch(text, out, step.fetched);
-    put_touch(text, out, step.touched);
-    put_entry(text, out, step.entered);
-    text.put_piece(out, &Piece::Text("\n"));
+    let mut line = Line::new();
+    line.put_byte(b'\n');
+    write_entry(&mut line, step.entered);
+    write_touch(&mut line, step.touched);
+    write_touch(&mut line, step.fetched);
+    write_outcome(&mut line, step.tick);
+    line.put_byte(b' ');
+    line.put_number(turn);
+    line.put_byte(b' ');
+    line.put_decimal(step.slot);
+    line.put_text("t ");
+    text.put_bytes(out, line.as_bytes());
 }
 
-/// Appends how a turn ended: `did`, `blocked`, or `faulted` with the number of the cause.
-fn put_outcome<O: Sink>(text: &mut TextBuffer, out: &mut O, tick: Tick)
-    ensures { Appends O.taken O.faults out.old out.new text.old text.new (outcome_text tick) }
+/// Puts how a turn ended before the text so far: `did`, `blocked`, or `faulted` with the number of the cause.
+#[inline(always)]
+#[tactic(auto, using(mm_text::proofs::LineLengths::line_lengths))]
+fn write_outcome(line: &mut Line, tick: Tick)
+    requires { length line.old + 11 ≤ 128 }
+    ensures text { line.new ≡ outcome_text tick ++ line.old }
+    ensures short { length line.new ≤ length line.old + 11 }
 {
     match tick {
-        Tick::Did => text.put_piece(out, &Piece::Text("did")),
-        Tick::Blocked => text.put_piece(out, &Piece::Text("blocked")),
-        Tick::Faulted(cause) => text.put(
-            out,
-            &[
-                Piece::Text("faulted "),
-                Piece::Decimal(cause.number() as u64),
-            ],
-        ),
+        Tick::Did => line.put_text("did"),
+        Tick::Blocked => line.put_text("blocked"),
+        Tick::Faulted(cause) => {
+            line.put_decimal(cause.number());
+            line.put_text("faulted ");
+        }
         Tick::Idle | Tick::Delivered(_) => {}
     }
 }
 
-/// Appends an access, if there is one.
-fn put_touch<O: Sink>(text: &mut TextBuffer, out: &mut O, access: Option<Access>)
-    ensures { Appends O.taken O.faults out.old out.new text.old text.new (touch_text access) }
+/// Puts an access before the text so far, if there is one.
+#[inline(always)]
+#[tactic(auto, using(mm_text::proofs::LineLengths::line_lengths))]
+fn write_touch(line: &mut Line, access: Option<Access>)
+    requires { length line.old + 23 ≤ 128 }
+    ensures text { line.new ≡ touch_text access ++ line.old }
+    ensures short { length line.new ≤ length line.old + 23 }
 {
     if let Some(access) = access {
-        put_kind(text, out, access.kind());
-        text.put_piece(out, &Piece::HexAddress(access.addr()));
+        line.put_hex(access.addr(), 14);
+        write_kind(line, access.kind());
     }
 }
 
-/// Appends the name of a kind of access, with a blank on either side.
-fn put_kind<O: Sink>(text: &mut TextBuffer, out: &mut O, kind: Kind)
-    ensures { Appends O.taken O.faults out.old out.new text.old text.new (kind_text kind) }
+/// Puts the name of a kind of access before the text so far, with a blank on either side.
+#[inline(always)]
+#[tactic(auto, using(mm_text::proofs::LineLengths::line_lengths))]
+fn write_kind(line: &mut Line, kind: Kind)
+    requires { length line.old + 9 ≤ 128 }
+    ensures text { line.new ≡ kind_text kind ++ line.old }
+    ensures short { length line.new ≤ length line.old + 9 }
 {
-    let name = match kind {
-        Kind::Fetch => " fetch ",
-        Kind::Load => " load ",
-        Kind::LoadSet => " loadset ",
-        Kind::Store => " store ",
-    };
-    text.put_piece(out, &Piece::Text(name));
+    match kind {
+        Kind::Fetch => line.put_text(" fetch "),
+        Kind::Load => line.put_text(" load "),
+        Kind::LoadSet => line.put_text(" loadset "),
+        Kind::Store => line.put_text(" store "),
+    }
 }
 
-/// Appends the enter pointer that was entered, if one was.
-fn put_entry<O: Sink>(text: &mut TextBuffer, out: &mut O, entered: Option<GuardedPtr>)
-    ensures { Appends O.taken O.faults out.old out.new text.old text.new (enter_text entered) }
+/// Puts the enter pointer that was entered before the text so far, if one was.
+#[inline(always)]
+#[tactic(auto, using(mm_text::proofs::LineLengths::line_lengths))]
+fn write_entry(line: &mut Line, entered: Option<GuardedPtr>)
+    requires { length line.old + 24 ≤ 128 }
+    ensures text { line.new ≡ enter_text entered ++ line.old }
+    ensures short { length line.new ≤ length line.old + 24 }
 {
     if let Some(pointer) = entered {
-        text.put_piece(out, &Piece::Text(" enter "));
-        put_word(text, out, Word::Ptr(pointer));
+        line.put_hex(pointer.bits(), 16);
+        line.put_text(" enter p");
     }
 }

@@ -26,6 +26,7 @@ pub trait TextItem: Copy {
 }
 
 /// Appends `count` copies of an item.
+#[inline(always)]
 pub fn append<T: Copy>(items: &mut Vec<T>, item: T, count: u32) -> Result<(), NoMemory>
     ensures { OnOk result (items.new.items ≡ items.old.items ++ replicate count item) }
 {

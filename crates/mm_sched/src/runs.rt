@@ -13,6 +13,7 @@ fn is_blank(b: u8) -> bool
 
 /// The start of the first run of bytes that are neither blank nor in a comment, from a place on that is in no comment;
 /// or the end of the text.
+#[inline(always)]
 pub fn run_start(bytes: &[u8], from: usize) -> usize
     requires { from ≤ length bytes.now }
     ensures from { from ≤ result }
@@ -50,6 +51,7 @@ fn line_end(bytes: &[u8], from: usize) -> usize
 }
 
 /// The end of the run that begins at a place.
+#[inline(always)]
 pub fn run_end(bytes: &[u8], from: usize) -> usize
     requires inside { from < length bytes.now }
     requires begins { is_word_byte (slice_index_or bytes.now from 0) ≡ true }

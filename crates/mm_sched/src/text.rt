@@ -46,6 +46,7 @@ impl TextItem for u8 {
 
     ghost keeps = { λ items. FitsLimit items };
 
+    #[inline(always)]
     fn add_word(items: &mut Vec<u8>, word: &[u8]) -> Result<bool, NoMemory> {
         let Some((number, count)) = item(word) else {
             return Ok(false); // no item

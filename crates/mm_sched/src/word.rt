@@ -18,6 +18,7 @@ pub fn number(digits: &[u8], most: u64) -> Option<u64>
 
 /// The number of at most `most` with which a text begins, in decimal digits without a leading zero, and the text after
 /// them.
+#[inline(always)]
 fn leading_number(text: &[u8], most: u64) -> Option<(u64, &[u8])>
     ensures some { IfSome result (λ read. Begins text.now read.0 read.1.now × (read.0 ≤ most)) }
     ensures none { IsNone result → (n : ℕ) (rest : List ℕ) → n ≤ most → ¬ (Begins text.now n rest) }
@@ -35,18 +36,21 @@ fn leading_number(text: &[u8], most: u64) -> Option<(u64, &[u8])>
 }
 
 /// A number with one digit more, if that is at most `most`.
+#[inline(always)]
 fn with_digit(number: u64, digit: u8, most: u64) -> Option<u64>
     requires { IsAsciiDigit digit }
     ensures { MatchOption result (most < number * 10 + (digit - 48)) (λ more. (more ≡ number * 10 + (digit - 48))
         × (more ≤ most)) }
 {
-    let more = number
-        .checked_mul(10)?
-        .checked_add(u64::from(digit - b'0'))?;
+    if number > most / 10 {
+        return None;
+    }
+    let more = (number * 10).checked_add(u64::from(digit - b'0'))?;
     if more <= most { Some(more) } else { None }
 }
 
 /// The number of a word `N` or `N*K`, and its count of items; `None` if the word is no item.
+#[inline(always)]
 pub fn item(word: &[u8]) -> Option<(u8, u32)>
     ensures some { IfSome result (λ said. IsItem word.now said.0 said.1) }
     ensures none { IsNone result → (n count : ℕ) → ¬ IsItem word.now n count }

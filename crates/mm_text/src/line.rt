@@ -4,12 +4,13 @@ ghost use Rattle.std.specs.Prelude.{◌≡◌, ◌+◌, ◌<◌, ◌≤◌, [], 
 ghost use Rattle.std.specs.Fmt.{digit_glyph};
 ghost use Rattle.mm_model.specs.Digits.{hex};
 
+use itoa::Buffer;
 use std::marker::Model;
 
 /// The most bytes that a line has.
-const ROOM: usize = 64;
+const ROOM: usize = 128;
 
-/// A short text that is put together from its end, in at most 64 bytes. Contracts see its bytes.
+/// A short text that is put together from its end, in at most 128 bytes. Contracts see its bytes.
 ///
 /// Each call puts its text before the text so far.
 #[derive(Drop)]
@@ -25,7 +26,7 @@ impl Model for Line {
 
     ghost view = { λ l. drop l.start l.bytes };
 
-    ghost invariant = { λ l. l.start ≤ 64 };
+    ghost invariant = { λ l. l.start ≤ 128 };
 }
 
 impl Line {
@@ -40,8 +41,9 @@ impl Line {
     }
 
     /// Puts a byte before the text so far.
+    #[inline(always)]
     pub fn put_byte(&mut self, byte: u8)
-        requires { length self.old < 64 }
+        requires { length self.old < 128 }
         ensures { self.new ≡ byte ∷ self.old }
     {
         self.start -= 1;
@@ -49,8 +51,9 @@ impl Line {
     }
 
     /// Puts a text before the text so far.
+    #[inline(always)]
     pub fn put_text(&mut self, text: &str)
-        requires { length text.now + length self.old ≤ 64 }
+        requires { length text.now + length self.old ≤ 128 }
         ensures { self.new ≡ text.now ++ self.old }
     {
         let end = self.start;
@@ -61,7 +64,7 @@ impl Line {
 
     /// Puts a number before the text so far, in decimal digits without leading zeros.
     pub fn put_decimal(&mut self, number: u8)
-        requires { length self.old + 3 ≤ 64 }
+        requires { length self.old + 3 ≤ 128 }
         ensures { self.new ≡ decimal number ++ self.old }
     {
         self.put_byte(b'0' + number % 10);
@@ -74,10 +77,20 @@ impl Line {
         }
     }
 
+    /// Puts a number of 64 bits before the text so far, in decimal digits without leading zeros.
+    pub fn put_number(&mut self, number: u64)
+        requires { length self.old + 20 ≤ 128 }
+        ensures text { self.new ≡ decimal number ++ self.old }
+        ensures short { length self.new ≤ length self.old + 20 }
+    {
+        let mut buffer = Buffer::new();
+        self.put_text(buffer.format(number));
+    }
+
     /// Puts the last hexadecimal digits of a number before the text so far, in lower case and with
     /// leading zeros.
     pub fn put_hex(&mut self, number: u64, digits: usize)
-        requires { length self.old + digits ≤ 64 }
+        requires { length self.old + digits ≤ 128 }
         ensures { self.new ≡ hex digits number ++ self.old }
     {
         let mut start = self.start;

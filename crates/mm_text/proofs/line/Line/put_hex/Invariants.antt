@@ -6,7 +6,7 @@ abbrev pub invariant-loop : goal.invariant-loop
 invariant-loop l = record {
   place : l.start + l.counter ≡ l.self-inside.start;
   room : l.digits ≤ l.self-inside.start;
-  inside : l.self-inside.start ≤ 64;
-  whole : length l.self-inside.bytes ≡ 64;
+  inside : l.self-inside.start ≤ 128;
+  whole : length l.self-inside.bytes ≡ 128;
   digits : hex (l.digits - l.counter) l.rest ++ drop l.start l.self-inside.bytes ≡ hex l.digits l.number ++ l.fn.self;
 }
