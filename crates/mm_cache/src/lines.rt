@@ -37,6 +37,7 @@ fn place_of(word: u64) -> usize
 
 /// Writes the cell of a word in a line and marks the line as dirty. `false` exactly if the line does not have the word's
 /// block.
+#[inline(always)]
 fn write(line: &mut Option<CacheLine>, word: u64, cell: Cell) -> bool
     ensures answer { result ≡ is_in line.old (block_of word) }
     ensures after { line.new ≡ line_with line.old word cell }
@@ -113,6 +114,7 @@ impl Lines {
     }
 
     /// The cell of a word, if the word's block is in its line.
+    #[inline(always)]
     pub fn cell(&self, word: u64) -> Option<Cell>
         ensures { result ≡ cell_of self.now word }
     {
@@ -123,6 +125,7 @@ impl Lines {
     }
 
     /// Writes the cell of a word and marks its line as dirty. `false` exactly if the word's block is not in its line.
+    #[inline(always)]
     pub fn put(&mut self, word: u64, cell: Cell) -> bool
         ensures answer { result ≡ hits self.old (block_of word) }
         ensures after { self.new ≡ with_cell self.old word cell }

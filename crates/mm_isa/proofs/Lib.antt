@@ -1,5 +1,6 @@
 pub mod Arithmetics
 pub mod Assembled
+pub mod CommonRows
 pub mod Forms
 pub mod Operands
 pub mod Packing

@@ -1,8 +1,8 @@
 //! Instructions read from their words.
 
-ghost use Rattle.std.specs.Prelude.{◌≡◌, ◌≢◌, ◌≤◌, IfSome, IfNone};
+ghost use Rattle.std.specs.Prelude.{◌≡◌, ◌≢◌, ◌+◌, ◌*◌, ◌<◌, ◌≤◌, ◌/◌, ◌%◌, ◌^◌, ◌==◌, IfSome, IfNone, Some};
 ghost use Rattle.mm_isa.specs.declared.instr.Instr.{Instr};
-ghost use Rattle.mm_isa.specs.Table.{number_of, spelling, IsInstr};
+ghost use Rattle.mm_isa.specs.Table.{number_of, pre_code, post_code, spelling, IsInstr};
 ghost use Rattle.mm_isa.specs.Decode.{instr_of, row_of, pre_in, post_in, how_in, register_in};
 
 use crate::encoding::encode;
@@ -32,6 +32,98 @@ pub fn read(w: u64) -> Option<Instr>
 {
     let i = row(Fields::of_word(w))?;
     if summed(&i) == w { Some(i) } else { None }
+}
+
+/// The instruction that a word spells, if it is one of the twelve that most words spell; `None` at any other word. Each row
+/// tests the bits that its instruction leaves zero, so that a compiler joins this table with the one that carries
+/// instructions out.
+#[inline(always)]
+#[tactic(auto, using(crate::proofs::CommonRows::common_rows))]
+pub fn common(w: u64) -> Option<Instr>
+    ensures { IfSome result (λ i. instr_of w ≡ Some i) }
+{
+    let Fields {
+        operation,
+        rd,
+        ra,
+        rb,
+        c,
+        imm,
+    } = Fields::of_word(w);
+    match operation {
+        0x02 if are_zero(w, 32, 20) => Some(Instr::Ldi { rd, imm }),
+        0x04 if are_zero(w, 0, 48) => Some(Instr::Mov { rd, ra }),
+        0x10 if are_zero(w, 0, 44) => Some(Instr::Alu {
+            op: AluOp::Add,
+            rd,
+            ra,
+            rb,
+        }),
+        0x11 if are_zero(w, 0, 44) => Some(Instr::Alu {
+            op: AluOp::Sub,
+            rd,
+            ra,
+            rb,
+        }),
+        0x1e if are_zero(w, 32, 16) => Some(Instr::Addi { rd, ra, imm }),
+        0x20 if are_zero(w, 0, 44) => Some(Instr::Lea { rd, ra, rb }),
+        0x21 if are_zero(w, 32, 16) => Some(Instr::Leai { rd, ra, imm }),
+        0x30 if are_zero(w, 44, 4) && are_zero(w, 32, 8) => match conditions(c) {
+            Some((pre, post)) => Some(Instr::Ld {
+                rd,
+                ra,
+                pre,
+                post,
+                imm,
+            }),
+            None => None,
+        },
+        0x31 if are_zero(w, 52, 4) && are_zero(w, 32, 8) => match conditions(c) {
+            Some((pre, post)) => Some(Instr::St {
+                ra,
+                rb,
+                pre,
+                post,
+                imm,
+            }),
+            None => None,
+        },
+        0x40 if are_zero(w, 32, 24) => Some(Instr::Br { imm }),
+        0x41 if are_zero(w, 52, 4) && are_zero(w, 32, 16) => Some(Instr::Bz { ra, imm }),
+        0x42 if are_zero(w, 52, 4) && are_zero(w, 32, 16) => Some(Instr::Bnz { ra, imm }),
+        _ => None,
+    }
+}
+
+/// Whether `count` bits of a word, from bit `from` on, are zero.
+#[inline(always)]
+fn are_zero(w: u64, from: u32, count: u32) -> bool
+    requires { from + count < 64 }
+    ensures { result ≡ (w / 2 ^ from % 2 ^ count == 0) }
+{
+    w >> from & ((1 << count) - 1) == 0
+}
+
+/// The conditions that a field `c` of four bits names; `None` if one of its halves names none.
+#[inline(always)]
+fn conditions(c: u8) -> Option<(Pre, Post)>
+    requires { c < 16 }
+    ensures { IfSome result (λ both. (both.0 ≡ pre_in c) × (both.1 ≡ post_in c)
+        × (pre_code both.0 * 4 + post_code both.1 ≡ c)) }
+{
+    let pre = match c / 4 {
+        0 => Pre::Any,
+        1 => Pre::Full,
+        2 => Pre::Empty,
+        _ => return None,
+    };
+    let post = match c % 4 {
+        0 => Post::Keep,
+        1 => Post::Full,
+        2 => Post::Empty,
+        _ => return None,
+    };
+    Some((pre, post))
 }
 
 /// The instruction of the fields' operation, with the fields that it uses. The other fields are ignored.

@@ -17,7 +17,7 @@ mod sum;
 mod table;
 
 pub use arithmetic::alu;
-pub use decoding::{decode, read};
+pub use decoding::{common, decode, read};
 pub use encoding::encode;
 pub use fields::Fields;
 pub use form::{Form, operation_named};

@@ -159,6 +159,7 @@ impl<M: Memory> Machine<M> {
 
     /// The next item: the one at an index of a list or, after the list's end, the next slot of round robin, which
     /// becomes the last.
+    #[inline(always)]
     fn next_item(&self, items: &[u8], at: u64, last: &mut Option<u8>) -> Option<u8>
         requires slot { IfSome last.old (λ n. n < 64) }
         ensures listed { at < length items.now → (result ≡ Some (slice_index items.now at)) × (last.new ≡ last.old) }
@@ -175,6 +176,7 @@ impl<M: Memory> Machine<M> {
     }
 
     /// Runs one more cycle, the turn of an item, under an observer.
+    #[inline(always)]
     fn advance<W: Watch<M>>(&mut self, item: u8, watch: &mut W)
         requires { (state_of self.old).cycles < 2 ^ 32 }
         ensures state { state_of self.new ≡ after (state_of self.old) item }

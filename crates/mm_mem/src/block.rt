@@ -64,6 +64,7 @@ impl Block {
     }
 
     /// The cell at a place, 0 to 7.
+    #[inline(always)]
     pub fn cell(&self, index: usize) -> Cell
         requires { index < 8 }
         ensures cell { slice_get self.now index ≡ Some result }
@@ -76,6 +77,7 @@ impl Block {
     }
 
     /// Writes the cell at a place, 0 to 7.
+    #[inline(always)]
     pub fn set(&mut self, index: usize, cell: Cell)
         requires { index < 8 }
         ensures { self.new ≡ slice_set self.old index cell }

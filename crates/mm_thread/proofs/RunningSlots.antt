@@ -12,8 +12,8 @@ use Rattle.mm_word.specs.{declared.cause.Cause.Cause, Pointer.Pointer}
 use Rattle.mm_isa.specs.declared.instr.How.{How, TheVariants.{Retry, Skip, Kill}}
 use Rattle.mm_model.specs.declared.slot.SlotState.{SlotState, TheVariants.{Running, Waiting, Taken, Halted}}
 use Rattle.mm_model.specs.{Slot.Slot, State.{ThreadRow, Core, slot_of, slot_at}}
-use Rattle.mm_model.specs.Effect.{Change, Effect, resumed_by, Effect.{Fault, Block, Deliver, Do}}
-use Rattle.mm_model.{specs.{Turn.{is_running, slot_after}, Flags.one_if}, proofs.TurnKeeps.changed_from}
+use Rattle.mm_model.specs.Effect.{Change, Effect, plain, resumed_by, Effect.{Fault, Block, Deliver, Do}}
+use Rattle.mm_model.{specs.{Turn.{is_running, slot_after, state_after}, Flags.one_if}, proofs.TurnKeeps.changed_from}
 use Rattle.mm_thread.specs.{Ends.EndsAlone, SlotIndices.no_row}
 use Rattle.mm_thread.specs.Tables.{slot_of_row, AreNumbered, HasRunners, IsNoted, IsIndex, AreKnown}
 use Rattle.mm_thread.proofs.Index.{row_in-none, row_in-alone}
@@ -158,6 +158,15 @@ runners_say core runners fits h n = elim (has_number core.rows n) as (λ _. IsBi
 
 pub after_number : (s : Slot) (c : Change) → (slot_after s c).number ≡ s.number
 after_number s c = let from = changed_from s c in from.number
+
+-- a slot that goes on does not halt
+pub plain_goes : (s : Slot) → (plain s).halts ≡ false
+unfolding plain
+plain_goes s = refl
+
+-- a slot that does not halt runs after its turn
+pub after_running : (s : Slot) (c : Change) → c.halts ≡ false → is_running (slot_after s c).state ≡ true
+after_running s c goes = let from = changed_from s c in ap is_running (from.state ∙ ap state_after goes)
 
 pub alone_number : (e : Effect) (old new : Slot) (ended : Result (Option Pointer) Cause) → EndsAlone e old new ended → new.number ≡ old.number
 alone_number (Do c) old new ended h = ap (λ (s : Slot). s.number) h.slot ∙ after_number old c

@@ -1,6 +1,6 @@
 -- How the parts of a turn make it.
 use Rattle.std.proofs.Common.{◌≡◌, ℕ, ◌+◌, ◌<◌, ◌^◌, Bool, true, false, cond, eqb, eqb-true, List, [], ◌∷◌, length, map}
-use Rattle.std.proofs.Common.{Option, Some, None, Ok, Err, refl, sym, ap, subst, ◌∙◌, arith, pos}
+use Rattle.std.proofs.Common.{Option, Some, None, Result, Ok, Err, refl, sym, ap, subst, ◌∙◌, arith, pos}
 use Rattle.std.{proofs.lemmas.List.{set-set, length-map}, specs.Prelude.{◌&&◌, slice_index}}
 use Rattle.mm_word.specs.declared.{perm.Kind.TheVariants.Fetch, cause.Cause.{Cause, TheVariants.Bounds}}
 use Rattle.mm_word.specs.declared.word.{Word.{Word, TheVariants.{Int, Ptr}}, Cell.Cell}
@@ -220,6 +220,10 @@ fetched-some None w e = cc
 fetched-some (Some c) w e =
     let same : c.word ≡ w = cc in
     (c, refl, same)
+
+-- a check gives one access
+pub same_access : (r : Result AccessValue Cause) (f h : AccessValue) → r ≡ Ok f → r ≡ Ok h → f ≡ h
+same_access r f h x y = cc
 
 -- a delivery is no turn
 pub turns-delivered : (core : Core) (p : ℕ) → CanTurn core p → (core1 : Core) → core1 ≡ with_slot core p (delivered (slot_in core p)) → (slot_in core1 p).turns < 2 ^ 62

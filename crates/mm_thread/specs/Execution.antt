@@ -1,8 +1,9 @@
 -- What the execution of an instruction leaves of the machine before its turn is ended.
 use Rattle.std.specs.Prelude.{◌≡◌, ℕ, ◌+◌, ◌<◌, ◌^◌, true, List, [], length, nat_lt, if◌then◌else◌, Option, None}
-use Rattle.std.specs.Prelude.{Result, Ok, Err}
+use Rattle.std.specs.Prelude.{Result, Ok, Err, pos}
 use Rattle.mm_word.specs.{declared.cause.Cause.{Cause, TheVariants.{Bounds, NoPage, Sync, Priv}}, Word.word_bits}
-use Rattle.mm_word.specs.Access.{AccessValue}
+use Rattle.mm_word.specs.declared.{perm.Kind.TheVariants.Fetch, word.Word.TheVariants.Ptr}
+use Rattle.mm_word.specs.Access.{AccessValue, check_result}
 use Rattle.mm_isa.specs.declared.instr.Instr.{Instr}
 use Rattle.mm_model.specs.declared.slot.SlotState.TheVariants.{Running}
 use Rattle.mm_model.specs.{declared.step.{Step.Step, Tick.TheVariants.{Did, Blocked}}, Memory.Memory}
@@ -26,6 +27,10 @@ pub record CanTurn (core : Core) (slot_index : ℕ) : Type 0 where
   pub within : slot_index < length core.rows
   pub turns : (slot_in core slot_index).turns < 2 ^ 62
   pub runs : is_running (slot_in core slot_index).state ≡ true
+
+-- the access that fetches a slot's instruction, or the cause of the first test that it fails
+abbrev pub fetch_of : Slot → Result AccessValue Cause
+fetch_of s = check_result (Ptr s.ip) (pos 0) Fetch
 
 -- 2. What an effect leaves, without the slot's own turn if it waits or faults.
 

@@ -13,6 +13,7 @@ use mm_isa::Instr;
 use mm_mem::Memory;
 
 /// Carries out an instruction of the slot at `slot_index`.
+#[inline(always)]
 pub(crate) fn execute<M: Memory>(
     tables: &mut Tables,
     slot_index: usize,

@@ -17,6 +17,7 @@ use mm_mem::Memory;
 use mm_model::{Slot, SlotState, Tick};
 
 /// Takes the turn of an item, which the observer is shown if it is a slot's or a port's, and tells its step.
+#[inline(always)]
 pub(crate) fn take_item<M: Memory, W: Watch<M>>(
     tables: &mut Tables,
     mem: &mut M,
@@ -43,6 +44,7 @@ pub(crate) fn take_item<M: Memory, W: Watch<M>>(
 }
 
 /// Whether a slot takes turns.
+#[inline(always)]
 pub(crate) fn is_running(slot: &Slot) -> bool
     ensures { result ≡ is_running slot.now.state }
 {
@@ -50,6 +52,7 @@ pub(crate) fn is_running(slot: &Slot) -> bool
 }
 
 /// Takes the turn of an item that is the number of no running slot: a port's delivery, or an idle cycle.
+#[inline(never)]
 fn take_port<M: Memory, W: Watch<M>>(tables: &mut Tables, mem: &M, item: u8, watch: &mut W)
     requires whole { IsCore tables.old }
     ensures { let m = M.meaning mem.now in

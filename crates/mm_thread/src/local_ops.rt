@@ -33,6 +33,7 @@ pub(crate) fn halt(slot: &mut Slot) -> Entered
 }
 
 /// `nop`: changes nothing, and goes on to the next instruction.
+#[inline(always)]
 pub(crate) fn nop(slot: &mut Slot) -> Entered
     requires { slot.old.turns < 2 ^ 62 }
     ensures ends { (split : Bool) → EndsAlone (effect split Instr.Nop slot.old Fine) slot.old slot.new result }
@@ -43,6 +44,7 @@ pub(crate) fn nop(slot: &mut Slot) -> Entered
 }
 
 /// `ldi`: writes the constant to a register, with its sign extended to 64 bits.
+#[inline(always)]
 pub(crate) fn ldi(slot: &mut Slot, rd: Reg, imm: i32) -> Entered
     requires { slot.old.turns < 2 ^ 62 }
     ensures { (split : Bool) → EndsAlone (effect split (Instr.Ldi rd imm) slot.old Fine) slot.old slot.new result }
@@ -69,6 +71,7 @@ fn high_and_low(bits: u64, imm: i32) -> u64
 }
 
 /// `mov`: copies a word, be it an integer or a pointer, to a register.
+#[inline(always)]
 pub(crate) fn mov(slot: &mut Slot, rd: Reg, ra: Reg) -> Entered
     requires { slot.old.turns < 2 ^ 62 }
     ensures { (split : Bool) → EndsAlone (effect split (Instr.Mov rd ra) slot.old Fine) slot.old slot.new result }
@@ -116,6 +119,7 @@ pub(crate) fn self_slot(slot: &mut Slot, rd: Reg) -> Entered
 }
 
 /// `add` to `lts`: writes to a register an integer made of the bits of two words. A division by 0 faults.
+#[inline(always)]
 pub(crate) fn operate(slot: &mut Slot, op: AluOp, rd: Reg, ra: Reg, rb: Reg) -> Entered
     requires { slot.old.turns < 2 ^ 62 }
     ensures { (split : Bool) → EndsAlone (effect split (Instr.Alu op rd ra rb) slot.old Fine) slot.old slot.new result }
@@ -131,6 +135,7 @@ pub(crate) fn operate(slot: &mut Slot, op: AluOp, rd: Reg, ra: Reg, rb: Reg) -> 
 }
 
 /// `addi`: writes to a register the sum of a word's bits and the constant, modulo 2^64.
+#[inline(always)]
 pub(crate) fn addi(slot: &mut Slot, rd: Reg, ra: Reg, imm: i32) -> Entered
     requires { slot.old.turns < 2 ^ 62 }
     ensures { (split : Bool) → EndsAlone (effect split (Instr.Addi rd ra imm) slot.old Fine) slot.old slot.new result }
@@ -143,6 +148,7 @@ pub(crate) fn addi(slot: &mut Slot, rd: Reg, ra: Reg, imm: i32) -> Entered
 }
 
 /// The pointer in a register, or the fault that there is none.
+#[inline(always)]
 fn pointer_of(slot: &Slot, ra: Reg) -> Result<GuardedPtr, Cause>
     ensures { result ≡ pointer_in (register slot.now ra) }
 {
@@ -154,6 +160,7 @@ fn pointer_of(slot: &Slot, ra: Reg) -> Result<GuardedPtr, Cause>
 }
 
 /// Writes a pointer to a register, if there is one, and goes on.
+#[inline(always)]
 fn sets_pointer(slot: &mut Slot, rd: Reg, made: Result<GuardedPtr, Cause>) -> Entered
     requires { slot.old.turns < 2 ^ 62 }
     ensures { EndsAlone (sets_pointer slot.old rd made) slot.old slot.new result }
@@ -168,6 +175,7 @@ fn sets_pointer(slot: &mut Slot, rd: Reg, made: Result<GuardedPtr, Cause>) -> En
 }
 
 /// The word of a register as a signed number.
+#[inline(always)]
 fn signed_word_of(slot: &Slot, r: Reg) -> i64
     ensures { result ≡ cast_signed w64 (word_bits (register slot.now r)) }
 {
@@ -175,6 +183,7 @@ fn signed_word_of(slot: &Slot, r: Reg) -> i64
 }
 
 /// `lea`: writes to a register a pointer that is moved by as many bytes as another word says.
+#[inline(always)]
 pub(crate) fn lea_by(slot: &mut Slot, rd: Reg, ra: Reg, rb: Reg) -> Entered
     requires { slot.old.turns < 2 ^ 62 }
     ensures { (split : Bool) → EndsAlone (effect split (Instr.Lea rd ra rb) slot.old Fine) slot.old slot.new result }
@@ -187,6 +196,7 @@ pub(crate) fn lea_by(slot: &mut Slot, rd: Reg, ra: Reg, rb: Reg) -> Entered
 }
 
 /// `leai`: writes to a register a pointer that is moved by `imm` bytes.
+#[inline(always)]
 pub(crate) fn leai(slot: &mut Slot, rd: Reg, ra: Reg, imm: i32) -> Entered
     requires { slot.old.turns < 2 ^ 62 }
     ensures { (split : Bool) → EndsAlone (effect split (Instr.Leai rd ra imm) slot.old Fine) slot.old slot.new result }
@@ -254,6 +264,7 @@ pub(crate) fn set_pointer(slot: &mut Slot, rd: Reg, ra: Reg) -> Entered
 }
 
 /// The instruction pointer moved by `imm` words.
+#[inline(always)]
 fn at_distance(slot: &Slot, imm: i32) -> Result<GuardedPtr, Cause>
     ensures pointer { result ≡ at_distance slot.now imm }
     ensures executable { IfOk result (λ p. can_fetch p.perm ≡ true) }
@@ -262,6 +273,7 @@ fn at_distance(slot: &Slot, imm: i32) -> Result<GuardedPtr, Cause>
 }
 
 /// `br`: goes on `imm` words from the instruction.
+#[inline(always)]
 pub(crate) fn br(slot: &mut Slot, imm: i32) -> Entered
     requires { slot.old.turns < 2 ^ 62 }
     ensures ends { (split : Bool) → EndsAlone (effect split (Instr.Br imm) slot.old Fine) slot.old slot.new result }
@@ -277,6 +289,7 @@ pub(crate) fn br(slot: &mut Slot, imm: i32) -> Entered
 }
 
 /// `bz`: goes on `imm` words from the instruction if a word's bits are 0, and else at the next instruction.
+#[inline(always)]
 pub(crate) fn bz(slot: &mut Slot, ra: Reg, imm: i32) -> Entered
     requires { slot.old.turns < 2 ^ 62 }
     ensures { (split : Bool) → EndsAlone (effect split (Instr.Bz ra imm) slot.old Fine) slot.old slot.new result }
@@ -289,6 +302,7 @@ pub(crate) fn bz(slot: &mut Slot, ra: Reg, imm: i32) -> Entered
 }
 
 /// `bnz`: goes on `imm` words from the instruction if a word's bits are not 0, and else at the next instruction.
+#[inline(always)]
 pub(crate) fn bnz(slot: &mut Slot, ra: Reg, imm: i32) -> Entered
     requires { slot.old.turns < 2 ^ 62 }
     ensures { (split : Bool) → EndsAlone (effect split (Instr.Bnz ra imm) slot.old Fine) slot.old slot.new result }

@@ -31,6 +31,7 @@ pub(crate) struct MemoryOperand {
 }
 
 /// `ld`: writes a cell's word to a register; in a split machine the word arrives later.
+#[inline(always)]
 pub(crate) fn load<M: Memory>(
     tables: &mut Tables,
     slot_index: usize,
@@ -61,6 +62,7 @@ pub(crate) fn load<M: Memory>(
 }
 
 /// `st`: writes a register's word to a cell.
+#[inline(always)]
 pub(crate) fn store<M: Memory>(
     tables: &mut Tables,
     slot_index: usize,
@@ -129,6 +131,7 @@ pub(crate) fn unmap<M: Memory>(
 }
 
 /// The outcome of an instruction that reached no cell.
+#[inline(always)]
 pub(crate) fn untouched(completion: Completion) -> Retired
     ensures { result ≡ record { completion = completion; touched = None } }
 {
@@ -139,6 +142,7 @@ pub(crate) fn untouched(completion: Completion) -> Retired
 }
 
 /// The outcome of an instruction with its access to a cell.
+#[inline(always)]
 fn touching(completion: Completion, access: Access) -> Retired
     ensures { result ≡ record { completion = completion; touched = Some access } }
 {
@@ -160,6 +164,7 @@ pub(crate) fn load_kind(post: Post) -> Kind
 }
 
 /// The access through a register's word, or the fault of the access.
+#[inline(always)]
 pub(crate) fn reach(slot: &Slot, ra: Reg, imm: i32, kind: Kind) -> Result<Access, Cause>
     ensures value { result ≡ check_result (register slot.now ra) imm kind }
     ensures kind { IfOk result (λ a. a.kind ≡ kind) }
@@ -168,6 +173,7 @@ pub(crate) fn reach(slot: &Slot, ra: Reg, imm: i32, kind: Kind) -> Result<Access
 }
 
 /// Writes the word of a load to a register, if the load was done.
+#[inline(always)]
 fn receive(tables: &mut Tables, slot_index: usize, rd: Reg, loaded: Loaded) -> Completion
     requires slot_index { slot_index < length tables.old.rows }
     requires runs { is_running (slot_in tables.old slot_index).state ≡ true }
@@ -191,6 +197,7 @@ fn receive(tables: &mut Tables, slot_index: usize, rd: Reg, loaded: Loaded) -> C
 }
 
 /// Goes on to the next instruction if the store was done, and else fails as the store did.
+#[inline(always)]
 fn finish_store(tables: &mut Tables, slot_index: usize, stored: Stored) -> Completion
     requires slot_index { slot_index < length tables.old.rows }
     requires runs { is_running (slot_in tables.old slot_index).state ≡ true }

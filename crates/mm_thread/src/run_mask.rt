@@ -1,7 +1,8 @@
 //! The set of running slots: bit n is set if slot n runs.
 
-ghost use Rattle.std.specs.Prelude.{◌≡◌, ◌<◌};
+ghost use Rattle.std.specs.Prelude.{◌≡◌, ◌<◌, true};
 ghost use Rattle.std.specs.Int.{bit_at};
+ghost use Rattle.mm_model.specs.Turn.{is_running};
 ghost use Rattle.mm_thread.specs.Tables.{AreNumbered, HasRunners, IsNoted};
 
 use crate::item::is_running;
@@ -32,6 +33,16 @@ pub(crate) fn keep_running(runners: u64, slot: &Slot) -> u64
     } else {
         without(runners, slot)
     }
+}
+
+/// The set after a turn of a slot that ran and runs on: it stays as it is.
+#[inline(always)]
+pub(crate) fn ran_on(runners: u64, slot: &Slot) -> u64
+    requires ran { bit_at runners slot.now.number ≡ 1 }
+    requires runs { is_running slot.now.state ≡ true }
+    ensures { IsNoted runners result slot.now }
+{
+    runners
 }
 
 /// The set without a slot that does not run.

@@ -16,6 +16,7 @@ use mm_model::{Event, Pending, Slot, SlotState};
 use mm_word::{GuardedPtr, Word, next};
 
 /// The word of a register.
+#[inline(always)]
 pub(crate) fn word_of(slot: &Slot, r: Reg) -> Word
     ensures { result ≡ register slot.now r }
 {
@@ -23,6 +24,7 @@ pub(crate) fn word_of(slot: &Slot, r: Reg) -> Word
 }
 
 /// Writes a register.
+#[inline(always)]
 pub(crate) fn set_register(slot: &mut Slot, rd: Reg, word: Word)
     ensures { slot.new ≡ record slot.old { regs = slice_set slot.old.regs rd word } }
 {
@@ -30,6 +32,7 @@ pub(crate) fn set_register(slot: &mut Slot, rd: Reg, word: Word)
 }
 
 /// Counts a turn of the slot, and sets its state.
+#[inline(always)]
 pub(crate) fn stand(slot: &mut Slot, state: SlotState)
     requires { slot.old.turns < 2 ^ 62 }
     ensures { slot.new ≡ stood slot.old state }
@@ -40,6 +43,7 @@ pub(crate) fn stand(slot: &mut Slot, state: SlotState)
 
 /// Goes on to the next instruction.
 #[tactic(auto, unfolding(mm_model::specs::Turn::slot_after, mm_model::specs::Effect::plain, mm_model::specs::Effect::advanced, mm_model::specs::Effect::runs_past))]
+#[inline(always)]
 pub(crate) fn advance(slot: &mut Slot)
     requires { slot.old.turns < 2 ^ 62 }
     ensures { slot.new ≡ slot_after slot.old (plain slot.old) }
@@ -56,16 +60,18 @@ pub(crate) fn advance(slot: &mut Slot)
 
 /// Writes a register and goes on to the next instruction.
 #[tactic(auto, unfolding(mm_model::specs::Turn::slot_after, mm_model::specs::Effect::plain))]
+#[inline(always)]
 pub(crate) fn sets(slot: &mut Slot, rd: Reg, word: Word)
     requires { slot.old.turns < 2 ^ 62 }
     ensures { slot.new ≡ slot_after slot.old (record (plain slot.old) { writes = (rd, word) ∷ [] }) }
 {
-    set_register(slot, rd, word);
     advance(slot);
+    set_register(slot, rd, word);
 }
 
 /// Goes on at another instruction.
 #[tactic(auto, unfolding(mm_model::specs::Turn::slot_after, mm_model::specs::Effect::plain))]
+#[inline(always)]
 pub(crate) fn go_to(slot: &mut Slot, next: GuardedPtr)
     requires turns { slot.old.turns < 2 ^ 62 }
     requires executable { can_fetch next.perm ≡ true }

@@ -84,6 +84,7 @@ pub fn turn<M: Memory>(core: &mut Core, mem: &mut M, item: u8) -> Step
 
 /// Does what [`turn`] does under an observer. A step that is returned is copied by each function that it passes through,
 /// so a loop of turns uses this call.
+#[inline(always)]
 pub fn turn_watched<M: Memory, W: Watch<M>>(core: &mut Core, mem: &mut M, item: u8, watch: &mut W)
     requires turns { AllByRecursion (λ (s : SlotValue). s.turns < 2 ^ 61) (slots_of core.old) }
     requires room { M.uses mem.old < 2 ^ 61 }

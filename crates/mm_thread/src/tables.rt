@@ -23,7 +23,7 @@ use crate::carry_out::carry_out;
 use crate::group_output::GroupOutput;
 use crate::local_ops::Entered;
 use crate::row::ThreadRow;
-use crate::run_mask::{keep_running, noted, runners_of};
+use crate::run_mask::{keep_running, noted, ran_on, runners_of};
 use crate::slot::{advance, deliver, issue, resume, set_register, sets, stand, take_event};
 use mm_isa::{EvtReg, How, Instr, Reg};
 use mm_model::{Event, Slot, SlotState, output_limit};
@@ -100,6 +100,7 @@ impl Tables {
     }
 
     /// The index of the slot of a number, if there is one.
+    #[inline(always)]
     pub(crate) fn find_slot(&self, number: u64) -> Option<usize>
         ensures within { IfSome result (λ p. p < length self.now.rows) }
         ensures number { IfSome result (λ p. (slot_in self.now p).number ≡ number) }
@@ -118,6 +119,7 @@ impl Tables {
     }
 
     /// The slot at `slot_index`.
+    #[inline(always)]
     pub(crate) fn slot(&self, slot_index: usize) -> &Slot
         requires { slot_index < length self.now.rows }
         ensures { result.now ≡ slot_in self.now slot_index }
@@ -176,6 +178,7 @@ impl Tables {
     }
 
     /// Whether the machine is split: its loads are delivered in turns of their own.
+    #[inline(always)]
     pub(crate) fn split(&self) -> bool
         ensures { result ≡ self.now.split }
     {
@@ -198,6 +201,7 @@ impl Tables {
     }
 
     /// Lets the slot go on to its next instruction.
+    #[inline(always)]
     pub(crate) fn advance(&mut self, slot_index: usize)
         requires slot_index { slot_index < length self.old.rows }
         requires runs { is_running (slot_in self.old slot_index).state ≡ true }
@@ -208,10 +212,11 @@ impl Tables {
         let row = &mut self.rows[slot_index];
         let slot = &mut row.slot;
         advance(slot);
-        self.runners = keep_running(self.runners, slot);
+        self.runners = ran_on(self.runners, slot);
     }
 
     /// Writes a word to a register of the slot, and lets the slot go on.
+    #[inline(always)]
     pub(crate) fn sets(&mut self, slot_index: usize, rd: Reg, word: Word)
         requires slot_index { slot_index < length self.old.rows }
         requires runs { is_running (slot_in self.old slot_index).state ≡ true }
@@ -223,7 +228,7 @@ impl Tables {
         let row = &mut self.rows[slot_index];
         let slot = &mut row.slot;
         sets(slot, rd, word);
-        self.runners = keep_running(self.runners, slot);
+        self.runners = ran_on(self.runners, slot);
     }
 
     /// Issues a load of the slot: the word arrives in the register later. The slot goes on.
@@ -240,7 +245,7 @@ impl Tables {
         let row = &mut self.rows[slot_index];
         let slot = &mut row.slot;
         issue(slot, rd, word);
-        self.runners = keep_running(self.runners, slot);
+        self.runners = ran_on(self.runners, slot);
     }
 
     /// Carries out an instruction of the slot that concerns it alone.
@@ -274,7 +279,7 @@ impl Tables {
         let row = &mut self.rows[slot_index];
         let slot = &mut row.slot;
         take_event(slot, rd, event);
-        self.runners = keep_running(self.runners, slot);
+        self.runners = ran_on(self.runners, slot);
     }
 
     /// Delivers the slot's oldest pending load, and gives its register; `None` if no load is pending.

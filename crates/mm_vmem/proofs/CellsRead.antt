@@ -86,6 +86,11 @@ pub read_missing : (m : Cached) (w : ℕ) → IsCached m → hits m.lines (block
 unfolding meaning
 read_missing m w held absent = reads_are_over.miss (memory_of m.frames) m.lines w held.cover absent
 
+-- a test that says no
+pub none_found : {A : Type 0} (o : Option A) → is_some o ≡ false → o ≡ None
+none_found None h = refl
+none_found (Some x) h = cc
+
 pub never_none : (P : Type 0) (o : Option Cell) (c : Cell) → o ≡ Some c → IfNone o P
 never_none P None c is = cc
 never_none P (Some d) c is = tt

@@ -100,7 +100,7 @@ impl VMem {
 
     /// Brings the block of a word into its line, which does not have it, and gives the word's cell; `None`, and nothing
     /// is brought, if its page is not mapped.
-    #[inline(never)]
+    #[inline(always)]
     fn miss(&mut self, word: u64) -> Option<Cell>
         requires aligned { word % 8 ≡ 0 }
         requires small { word < 2 ^ 54 }
@@ -122,10 +122,39 @@ impl VMem {
             (state_at (line_states self.old.lines) (line_of (block_of word))) (block_of word)
             (pages_in self.old.entries) self.old.numbers) }
     {
-        let block = word / 64;
-        let frame = self.frame_of(block / 64)?;
-        self.bring(block, frame);
+        if !self.bring_mapped(word / 64) {
+            return None;
+        }
         self.lines.cell(word)
+    }
+
+    /// Brings a block into its line, which does not have it. `false`, and nothing is brought, if its page is not mapped. It
+    /// stays a call, and gives no cell, so that a hit need not clear a place for one.
+    #[inline(never)]
+    fn bring_mapped(&mut self, block: u64) -> bool
+        requires small { block < 2 ^ 48 }
+        requires absent { hits self.old.lines block ≡ false }
+        requires some { 0 < self.old.uses }
+        requires room { self.old.uses ≤ 2 ^ 62 }
+        requires few { AreFew self.old.numbers (self.old.uses - 1) }
+        ensures answer { result ≡ is_some (frame_of self.old.frames (page_of_block block)) }
+        ensures after { meaning self.new ≡ meaning self.old }
+        ensures count { self.new.uses ≡ self.old.uses }
+        ensures there { result ≡ true → hits self.new.lines block ≡ true }
+        ensures same { result ≡ false → self.new ≡ self.old }
+        ensures lines { result ≡ true → line_states self.new.lines ≡ slice_set (line_states self.old.lines)
+            (line_of block) (Some (record { block = block; dirty = false })) }
+        ensures entries { result ≡ true → pages_in self.new.entries ≡ after_looks
+            (sought (state_at (line_states self.old.lines) (line_of block)) block) (pages_in self.old.entries) }
+        ensures numbers { result ≡ true → self.new.numbers
+            ≡ next_numbers (state_at (line_states self.old.lines) (line_of block)) block
+            (pages_in self.old.entries) self.old.numbers }
+    {
+        let Some(frame) = self.frame_of(block / 64) else {
+            return false;
+        };
+        self.bring(block, frame);
+        true
     }
 
     /// Brings a block into its line, which does not have it, from the frame of its page.
@@ -210,6 +239,7 @@ impl VMem {
     }
 
     /// Writes the cell of a word whose block is in its line.
+    #[inline(always)]
     fn write(&mut self, word: u64, cell: Cell)
         requires { hits self.old.lines (block_of word) ≡ true }
         ensures after { meaning self.new ≡ put_cell (meaning self.old) word cell }
@@ -233,11 +263,15 @@ impl Memory for VMem {
 
     ghost counted = { λ m us h. h.count };
 
+    #[inline(always)]
     fn fetch(&mut self, a: &Access) -> Option<Word> {
-        let cell = self.touch(a.addr())?;
-        Some(cell.word)
+        match self.touch(a.addr()) {
+            Some(cell) => Some(cell.word),
+            None => None,
+        }
     }
 
+    #[inline(always)]
     fn load(&mut self, a: &Access, pre: Pre, post: Post) -> Loaded {
         let word = a.addr();
         let Some(cell) = self.touch(word) else {
@@ -260,6 +294,7 @@ impl Memory for VMem {
         Loaded::Value(cell.word)
     }
 
+    #[inline(always)]
     fn store(&mut self, a: &Access, w: Word, pre: Pre, post: Post) -> Stored {
         let word = a.addr();
         let Some(cell) = self.touch(word) else {

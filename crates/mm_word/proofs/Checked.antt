@@ -1,12 +1,12 @@
 -- What the result of a check tells.
-use Rattle.std.proofs.Common.{◌≡◌, ◌≢◌, ◌↔◌, ℕ, ◌+◌, ◌%◌, refl, sym, ap, ◌∙◌, subst, add-zero, true, false, Option}
+use Rattle.std.proofs.Common.{◌≡◌, ◌≢◌, ◌↔◌, ℕ, ◌+◌, ◌%◌, ◌^◌, ◌≤◌, Bool, ◌&&◌, FitsSigned, refl, sym, ap, ◌∙◌, subst, add-zero, true, false, Option}
 use Rattle.std.proofs.Common.{None, Some, Result, Ok, Err, OnOk, IfOk, IfErr, pos, negsuc, ◌+ℤ◌, [], ◌∷◌, arith}
-use Rattle.std.{proofs.lemmas.Grind.common_steps, specs.Prelude.{ℤ, if◌then◌else◌}}
+use Rattle.std.{proofs.lemmas.Grind.common_steps, specs.{Prelude.{ℤ, if◌then◌else◌}, Int.{w64, cast_unsigned}}}
 use Rattle.mm_word.specs.declared.{perm.Kind.Kind, cause.Cause.Cause, word.Word.{Word, TheVariants.{Int, Ptr}}}
 use Rattle.mm_word.specs.{Cause.first_failing, Word.IsPointerAnd, Perm.allows}
-use Rattle.mm_word.specs.Pointer.{Pointer, InSegment, Covers, holds_word}
+use Rattle.mm_word.specs.Pointer.{Pointer, IsWellFormed, InSegment, in_segment, Covers, holds_word}
 use Rattle.mm_word.specs.Access.{AccessValue, touch_at, check_result, first_fault, holds_word_at, is_aligned}
-use Rattle.mm_word.{specs.Access.{IsUncovered, IsMisaligned}, proofs.Below.holds_word-Covers}
+use Rattle.mm_word.{specs.Access.{IsUncovered, IsMisaligned}, proofs.{Below.holds_word-Covers, Segments.{wraps_to, wraps_above, far_outside}}}
 use Rattle.mm_word.specs.declared.cause.Cause.TheVariants as cause
 
 -- the result at an exact sum
@@ -27,6 +27,19 @@ passed_at p (negsuc a) kind t e = grind (arith, common_steps)
 is_at : (p : Pointer) (z : ℤ) (kind : Kind) (t : AccessValue) → result_at p z kind ≡ Ok t → (p ≡ t.ptr) × (pos t.addr ≡ z) × (t.kind ≡ kind)
 is_at p (pos a) kind t e = grind (arith, common_steps)
 is_at p (negsuc a) kind t e = grind (arith, common_steps)
+
+-- the access at an exact sum is that at the number that the sum wraps to
+wraps_at : (p : Pointer) (w : ℕ) (by : ℤ) (kind : Kind) (z : ℤ) → IsWellFormed p → FitsSigned w64 by → w ≡ (p.addr + cast_unsigned w64 by) % 2 ^ 64 → pos p.addr +ℤ by ≡ z
+    → touch_at p z kind ≡ touch_at p (pos w) kind
+wraps_at p w by kind (pos a) h f e s = ap (λ (n : ℕ). touch_at p (pos n) kind) (sym (e ∙ wraps_to p.addr a by h.addr_in_range f s))
+wraps_at p w by kind (negsuc k) h f e s =
+    let far : 2 ^ 54 ≤ w = omega (arith, e, wraps_above p.addr k by h.addr_in_range f s) in
+    let out : holds_word p w ≡ false = ap (λ (b : Bool). b && in_segment p (w + 7)) (far_outside p w h far) in
+    rw out refl
+
+pub touch_wraps : (p : Pointer) (w : ℕ) (by : ℤ) (kind : Kind) → IsWellFormed p → FitsSigned w64 by → w ≡ (p.addr + cast_unsigned w64 by) % 2 ^ 64
+    → touch_at p (pos p.addr +ℤ by) kind ≡ touch_at p (pos w) kind
+touch_wraps p w by kind h f e = wraps_at p w by kind (pos p.addr +ℤ by) h f e refl
 
 -- a word whose first and last bytes are in the segment
 pub Covers-holds_word : (p : Pointer) (a : ℕ) → Covers p a → holds_word p a ≡ true

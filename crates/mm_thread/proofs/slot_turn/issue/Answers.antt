@@ -1,4 +1,4 @@
-use Rattle.std.proofs.Common.{ℕ, Some, None, sym, ap, ◌∙◌}
+use Rattle.std.proofs.Common.{ℕ, Some, None, is_some, sym, ap, ◌∙◌}
 use Rattle.mm_model.specs.{Slot.Slot, Memory.Memory, declared.step.Tick.TheVariants.Blocked}
 use Rattle.mm_thread.specs.{SlotIndices.slot_in, Execution.step_ended, Told.told_at}
 use Rattle.mm_thread.proofs.{Cores.registers_small, Turns.{can_end, issued_gives, issued_waits, turns-delivered}}
@@ -25,8 +25,11 @@ returns-then-must_wait g c = λ before u first same counted.
     c.behind-tables.inside.number c.deliver-register.ensures.slot c.stand.ensures number
     (c.tell_step.ensures ∙ ap (λ v. tells v (record { tick = Blocked; slot = c.behind-tables.inside.number; fetched = Some a.access; touched = None; entered = None })) seen)
 
-pub end-requires : goal.end-requires
-end-requires g c =
+pub end-requires-clause-spelled : goal.end-requires-clause-spelled
+end-requires-clause-spelled g c = ap is_some c.requires.spelled
+
+pub end-requires-clause-can : goal.end-requires-clause-can
+end-requires-clause-can g c =
     let a = c.args in
     can_end a.tables.now a.slot_index c.requires.can (g.M.Memory.meaning a.mem.now) _ c.execute-retired.new.tables
     (g.M.Memory.meaning c.execute-retired.new.mem) c.execute-retired.result.completion c.execute-retired.ensures.leaves
@@ -41,5 +44,5 @@ returns g c = λ before u first same counted.
     let step = λ (n : ℕ). step_ended n (slot_in c.execute-retired.new.tables a.slot_index) (Some a.access) c.execute-retired.result.touched c.execute-retired.result.completion in
     issued_gives g.M.Memory.meaning g.M.Memory.uses g.M.Memory.stands tells (told (g.M.Memory.meaning before)) a.tables.now a.slot_index c.requires.can a.access u a.instr before a.mem.now first same counted
     (sym c.must_wait.ensures ∙ c.if-must_wait.false) c.execute-retired.new.mem c.execute-retired.new.tables c.end.new.tables c.execute-retired.result c.end.new.watch
-    c.execute-retired.ensures c.end.ensures.core
+    c.execute-retired.ensures (c.end.ensures.core a.instr c.requires.spelled)
     (c.end.ensures.watch ∙ ap (λ v. tells v (step c.behind-tables.inside.number)) seen ∙ ap (λ (n : ℕ). tells (told (g.M.Memory.meaning before)) (step n)) number)

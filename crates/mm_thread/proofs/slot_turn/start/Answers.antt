@@ -1,4 +1,4 @@
-use Rattle.std.proofs.Common.{◌≡◌, [], true, false, None, Ok, Err, sym, ap, ◌∙◌, refl, arith, pos}
+use Rattle.std.proofs.Common.{◌≡◌, [], true, false, None, Ok, Err, is_err, sym, ap, ◌∙◌, refl, arith, pos}
 use Rattle.mm_word.specs.declared.{cause.Cause.TheVariants.Bounds, perm.Kind.TheVariants.Fetch}
 use Rattle.mm_word.specs.{declared.word.Word.TheVariants.Ptr, Access.check_result}
 use Rattle.mm_model.specs.{Slot.Slot, Memory.Memory, Uses.takes_none}
@@ -18,6 +18,11 @@ returns-then-past g c =
     (faults_give g.M.Memory.meaning g.M.Memory.uses g.M.Memory.stands g.W.Watch.tells (g.W.Watch.looks a.watch.now (told_at t m s None)) t m s Bounds None [] a.mem.now a.mem.now c.fail_fetch.new.tables c.fail_fetch.new.watch
     c.fail_fetch.ensures.core refl c.fail_fetch.ensures.watch (takes_none a.mem.now) (omega arith))
 
+pub fail_check-requires-clause-refused : goal.fail_check-requires-clause-refused
+fail_check-requires-clause-refused g c =
+    let same = c.slot.view_is ∙ c.slot-slot.ensures in
+    ap is_err (ap (λ (x : Slot). check_result (Ptr x.ip) (pos 0) Fetch) (sym same) ∙ sym c.check.ensures.value ∙ c.in-Err.is)
+
 pub returns-in-Err : goal.returns-in-Err
 returns-in-Err g c =
     let a = c.args in
@@ -25,12 +30,16 @@ returns-in-Err g c =
     let m : Memory = g.M.Memory.meaning a.mem.now in
     let s = slot_in t a.slot_index in
     let same = c.slot.view_is ∙ c.slot-slot.ensures in
+    let cause = c.in-Err.field-0 in
     let past : s.past ≡ false = ap (λ (x : Slot). x.past) (sym same) ∙ c.if-past.false in
-    let checked : check_result (Ptr s.ip) (pos 0) Fetch ≡ Err c.in-Err.cause = ap (λ (x : Slot). check_result (Ptr x.ip) (pos 0) Fetch) (sym same) ∙ sym c.in-Err.ensures.value in
-    rw (starts_unfetched t m s c.in-Err.cause past checked, comes_unfetched t m s c.in-Err.cause past checked)
-    (faults_give g.M.Memory.meaning g.M.Memory.uses g.M.Memory.stands g.W.Watch.tells (g.W.Watch.looks a.watch.now (told_at t m s None)) t m s c.in-Err.cause
-    None [] a.mem.now a.mem.now c.fail_fetch-in-Err.new.tables c.fail_fetch-in-Err.new.watch
-    c.fail_fetch-in-Err.ensures.core refl c.fail_fetch-in-Err.ensures.watch (takes_none a.mem.now) (omega arith))
+    let checked : check_result (Ptr s.ip) (pos 0) Fetch ≡ Err cause = ap (λ (x : Slot). check_result (Ptr x.ip) (pos 0) Fetch) (sym same) ∙ sym c.check.ensures.value ∙ c.in-Err.is in
+    rw (starts_unfetched t m s cause past checked, comes_unfetched t m s cause past checked)
+    (faults_give g.M.Memory.meaning g.M.Memory.uses g.M.Memory.stands g.W.Watch.tells (g.W.Watch.looks a.watch.now (told_at t m s None)) t m s cause
+    None [] a.mem.now a.mem.now c.fail_check.new.tables c.fail_check.new.watch
+    (c.fail_check.ensures.core cause checked) refl (c.fail_check.ensures.watch cause checked) (takes_none a.mem.now) (omega arith))
+
+pub fetch-requires-clause-passed : goal.fetch-requires-clause-passed
+fetch-requires-clause-passed g c = ap (λ (x : Slot). check_result (Ptr x.ip) (pos 0) Fetch) (sym (c.slot.view_is ∙ c.slot-slot.ensures)) ∙ sym c.in-Ok.ensures.value
 
 pub returns-in-Ok : goal.returns-in-Ok
 returns-in-Ok g c =
