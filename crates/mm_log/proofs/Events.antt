@@ -12,12 +12,11 @@ use Rattle.mm_model.specs.{State.{Core, slot_at, queue_at, put_slot, put_queue, 
 use Rattle.mm_model.specs.Fits.{slots_of, IsSlot, IsFormed}
 use Rattle.mm_model.specs.Ask.{Ask, ask, is_privileged, load_kind, reaching}
 use Rattle.mm_model.specs.Ask.Ask.{Refuse, MapPage, UnmapPage, NextEvent}
-use Rattle.mm_model.specs.Effect.{Change, effect, takes, delivered, Effect.Do}
-use Rattle.mm_model.specs.Turn.{Turned, reply, first_event, event_reply, slot_after, with_other, with_queue, with_out}
-use Rattle.mm_model.specs.Turn.{core_after, stood, is_sync, event_of, core_faulted, tick_faulted, faulted, blocked}
-use Rattle.mm_model.specs.Turn.{ended, idle, turn}
+use Rattle.mm_model.specs.Effect.{Change, effect, takes, Effect.Do}
+use Rattle.mm_model.specs.Turn.{reply, first_event, event_reply, slot_after, with_other, with_queue, with_out}
+use Rattle.mm_model.specs.Turn.{core_after, stood, is_sync, event_of, core_faulted, tick_faulted}
 use Rattle.mm_model.proofs.CoreRows.{slot_at-number, slot_at-put_same, slot_at-put_other, queue_at-put_slot}
-use Rattle.mm_model.proofs.CoreRows.{queue_at-put_same, queue_at-put_other, slot_has, other_at}
+use Rattle.mm_model.proofs.CoreRows.{slot_at-put_queue, queue_at-put_same, queue_at-put_other, slot_has, other_at}
 use Rattle.mm_model.proofs.{CoreSteps.Fitting, TurnKeeps.changed_from}
 use Rattle.mm_log.specs.{Lines.{Line, Line.{Queues, Reads}}, Changes.{each_number, queued_at, read_at}}
 use Rattle.mm_thread.specs.Told.{event_in}

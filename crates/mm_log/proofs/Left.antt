@@ -1,6 +1,6 @@
 -- The lines of what was kept of a slot are its changes, if no other register changed.
-use Rattle.std.proofs.Common.{◌≡◌, ◌≢◌, ℕ, zero, suc, ◌+◌, ◌<◌, ◌≤◌, inl, inr, ◌&&◌, if◌then◌else◌, List, [], ◌∷◌, ◌++◌}
-use Rattle.std.proofs.Common.{map, Option, Some, None, refl, sym, ap, ◌∙◌, arith, append-nil}
+use Rattle.std.proofs.Common.{◌≡◌, ℕ, zero, suc, ◌+◌, ◌<◌, ◌≤◌, inl, inr, ◌&&◌, if◌then◌else◌, List, [], ◌∷◌, ◌++◌}
+use Rattle.std.proofs.Common.{Option, Some, None, refl, sym, ap, ◌∙◌, arith}
 use Rattle.std.proofs.lemmas.{Bool.{cases_eq, cases_lt}, List.Folds.flat_map-map}
 use Rattle.std.specs.List.{flat_map, range_with_len}
 use Rattle.mm_model.{specs.{Effect.same_word, Report.same_bit, Slot.{Slot, register, is_empty}}, proofs.Sames.pair_self}
@@ -9,7 +9,7 @@ use Rattle.mm_thread.proofs.Writes.{Spares, SameAt}
 use Rattle.mm_log.specs.Lines.{Line}
 use Rattle.mm_log.specs.Changes.{pointer_changes, state_changes, register_now, register_changes, load_changes}
 use Rattle.mm_log.specs.Changes.{slot_changes, changes_between}
-use Rattle.mm_log.specs.Seen.{pointer_left, state_left, held_left, left_of}
+use Rattle.mm_log.specs.Seen.{held_left, left_of}
 use Rattle.mm_log.proofs.Numbers.{none_from}
 
 -- 1. Lines of few numbers.
@@ -45,8 +45,8 @@ module _ (f : ℕ → List Line) where
   named rs (AreNamed.four r low) h =
       let two : r + 1 + 1 ≡ r + 2 = omega arith in
       let three : r + 1 + 1 + 1 ≡ r + 3 = omega arith in
-      window f r 4 0 16 (omega arith) (omega (arith, low)) (λ k up lt. h k (omega arith, omega arith, omega arith, omega arith, tt)) (λ k up. h k (omega arith, omega arith, omega arith, omega arith, tt))
-      ∙ ap (λ (x : ℕ). f r ++ f (r + 1) ++ f x ++ f (x + 1) ++ []) two
+      window f r 4 0 16 (omega arith) (omega (arith, low)) (λ k up lt. h k (omega arith, (omega arith, (omega arith, (omega arith, tt))))) (λ k up. h k (omega arith, (omega arith, (omega arith, (omega arith, tt)))))
+      ∙ ap (flat_map f) (ap (λ (x : ℕ). r ∷ (r + 1) ∷ x ∷ (r + 1 + 1 + 1) ∷ []) two ∙ ap (λ (x : ℕ). r ∷ (r + 1) ∷ (r + 2) ∷ x ∷ []) three)
 
 -- 2. A slot.
 

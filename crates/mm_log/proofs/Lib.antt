@@ -1,4 +1,3 @@
-pub mod Turns
 pub mod Runs
 pub mod Sames
 pub mod Pages
@@ -8,7 +7,7 @@ pub mod Logs
 pub mod Told
 pub mod Numbers
 pub mod Left
-pub mod Slots
+pub mod Beside
 pub mod Memories
 pub mod Events
 pub mod Peeks

@@ -27,7 +27,8 @@ use Rattle.mm_log.specs.Replay.{holding, emptied, is_turn, with_turns, without_f
 use Rattle.mm_log.specs.Laws.{but_cycles, LogsReplay}
 use Rattle.mm_log.proofs.Runs.{all_flat, all_map, all_unless, all_where, run_on, run_append, run_silent, run_range}
 use Rattle.mm_thread.proofs.Rows.{SlotMove}
-use Rattle.mm_log.proofs.{Runs.IsSilent, Turns.{Counts, QueueMove, OutMove, TurnMoves, turn_moves}}
+use Rattle.mm_thread.proofs.Moves.{Counts, QueueMove, OutMove, TurnMoves, turn_moves}
+use Rattle.mm_log.proofs.Runs.{IsSilent}
 use Rattle.mm_log.proofs.Pages.{memory_line, memory_told, memory_made}
 use Rattle.mm_log.proofs.Carried.{row_line, out_line, slot_line, queue_line, replayed, row_all, found_number, core_made}
 use Rattle.mm_log.proofs.Registers.{slot_all, slot_replayed}
@@ -204,8 +205,8 @@ module _ (i : Image) (img : IsImage i) (s : State) (n : ℕ) (state : IsState s)
   abbrev t : Turned
   t = turn_of s n
 
-  moves : TurnMoves s.core s.memory t
-  moves = turn_moves s.core s.memory state.core (fitting_of i s img fits) n
+  moves : TurnMoves is_turn s.core s.memory t
+  moves = turn_moves is_turn (record { did = refl; blocked = refl; faulted = λ c. refl; idle = refl }) s.core s.memory state.core (fitting_of i s img fits) n
 
   abbrev later : State
   later = record { core = t.core; memory = t.memory; cycles = s.cycles + 1 }
@@ -341,7 +342,7 @@ module _ (i : Image) (img : IsImage i) (s : State) (n : ℕ) (state : IsState s)
       ∙ memory_made s.memory state.pages state.cells t.memory later_state.cells moves.asked (memory_told s.memory state.pages moves.asked t.memory moves.memory)
 
   -- the turns of a slot, by the trace line
-  turns_part : (k : ℕ) (x y : Slot) → slot_at t.core k ≡ Some y → (y.turns ≡ x.turns) ⊎ Counts t k → slot_line k (Traced (turns_in t) t.step) x ≡ record x { turns = y.turns }
+  turns_part : (k : ℕ) (x y : Slot) → slot_at t.core k ≡ Some y → (y.turns ≡ x.turns) ⊎ Counts is_turn t k → slot_line k (Traced (turns_in t) t.step) x ≡ record x { turns = y.turns }
   turns_part k x y there turns = by (nat_eq k t.step.slot) refl
     where
       same : (y.turns ≡ x.turns) → x ≡ record x { turns = y.turns }
@@ -381,7 +382,7 @@ module _ (i : Image) (img : IsImage i) (s : State) (n : ℕ) (state : IsState s)
       let two : ◌≡◌ {A = Option Slot} (Some moved.now) (Some y.slot) = sym moved.is ∙ slot_now in
       let one : moved.now ≡ y.slot = cc in
       let move : SlotMove x.slot y.slot = subst (SlotMove x.slot) one moved.move in
-      let turns : (y.slot.turns ≡ x.slot.turns) ⊎ Counts t k = subst (λ (z : Slot). (z.turns ≡ x.slot.turns) ⊎ Counts t k) one moved.turns in
+      let turns : (y.slot.turns ≡ x.slot.turns) ⊎ Counts is_turn t k = subst (λ (z : Slot). (z.turns ≡ x.slot.turns) ⊎ Counts is_turn t k) one moved.turns in
       let slot : run_on (slot_line x.slot.number) all_lines x.slot ≡ y.slot =
       ap (λ j. run_on (slot_line j) all_lines x.slot) number
       ∙ ap (run_on (slot_line k) lines) (turns_part k x.slot y.slot slot_now turns)

@@ -1,11 +1,11 @@
 -- The texts of lines, part by part.
-use Rattle.std.proofs.Common.{◌≡◌, ℕ, Bool, true, ◌&&◌, not, nat_lt, if◌then◌else◌, List, [], ◌∷◌, ◌++◌, length, get_or, drop, map}
-use Rattle.std.proofs.{Common.{refl, sym, ap, ◌∙◌, arith, append-nil}, lemmas.{Grind.flat_map-append, List.Folds.flat_map-map}}
+use Rattle.std.proofs.Common.{◌≡◌, ℕ, Bool, ◌&&◌, not, nat_lt, if◌then◌else◌, List, [], ◌∷◌, ◌++◌, drop, map}
+use Rattle.std.proofs.{Common.{refl, sym, ap, ◌∙◌}, lemmas.{Grind.flat_map-append, List.Folds.flat_map-map}}
 use Rattle.std.specs.List.{flat_map}
 use Rattle.mm_model.specs.{Slot.Slot, declared.step.Tick.Tick, State.{State, output_of}}
-use Rattle.mm_thread.specs.{declared.told.{Held.Held, Was.Was}, Told.Told}
-use Rattle.mm_log.specs.Lines.{Line, line_text, Line.{Enters, Issues, Puts, Maps, Removes}}
-use Rattle.mm_log.specs.{Changes.same_state, Log.text_of}
+use Rattle.mm_thread.specs.{declared.told.Was.Was, Told.Told}
+use Rattle.mm_log.specs.Lines.{Line, line_text, Line.{Issues, Puts, Maps, Removes}}
+use Rattle.mm_log.specs.Log.{text_of}
 use Rattle.mm_log.specs.Seen.{pointer_left, state_left, held_left, slot_left}
 use Rattle.mm_log.specs.Seen.{in_order, slots_seen, queued_seen, read_seen, out_seen, page_told, page_seen, cell_seen}
 use Rattle.mm_log.specs.Seen.{seen}
@@ -33,26 +33,6 @@ slot_text was now =
     ∙ ap (λ l. text_of a ++ text_of b ++ l ++ text_of d) (text_flat (held_left now) was.held)
     ∙ ap (λ l. text_of a ++ text_of b ++ flat_map (λ h. text_of (held_left now h)) was.held ++ l)
     (flat_map-map line_text (Issues now.number) (drop was.loads now.pending)))
-
-single : (xs : List Held) (d : Held) → length xs ≡ 1 → xs ≡ get_or xs 0 d ∷ []
-single [] d e = absurd (omega (arith, e))
-single (x ∷ []) d e = refl
-single (x ∷ y ∷ xs) d e = absurd (omega (arith, e))
-
--- the text of a slot of which one register was kept, and whose state stays
-pub one_text : (was : Was) (now : Slot) (h : Held) → length was.held ≡ 1 → h ≡ get_or was.held 0 h → same_state was.state now.state ≡ true
-    → text_of (pointer_left was.ip was.past now) ++ text_of (held_left now h)
-    ≡ text_of (pointer_left was.ip was.past now) ++ text_of (state_left was.state now) ++ flat_map (λ x. text_of (held_left now x)) was.held
-one_text was now h alone is same =
-    let p : List ℕ = text_of (pointer_left was.ip was.past now) in
-    let x : List ℕ = text_of (held_left now h) in
-    let each : List Held → List ℕ = λ hs. flat_map (λ y. text_of (held_left now y)) hs in
-    let one : was.held ≡ h ∷ [] = single was.held h alone ∙ ap (λ y. y ∷ []) (sym is) in
-    sym
-    (ap (λ b. p ++ text_of (if b then [] else Enters now.number now.state ∷ []) ++ each was.held) same
-    ∙ ap (λ hs. (p ++ []) ++ each hs) one
-    ∙ ap (λ l. l ++ (x ++ [])) (append-nil p)
-    ∙ ap (λ l. p ++ l) (append-nil x))
 
 -- the texts of two slots in order
 pub order_text : (a b : ℕ) (first second : List Line)

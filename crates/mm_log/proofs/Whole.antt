@@ -1,6 +1,6 @@
 -- What a turn showed tells all that it changes: the lines of a cycle are the differences of its two states.
-use Rattle.std.proofs.Common.{◌≡◌, ◌≢◌, ℕ, ◌+◌, ◌-◌, ◌<◌, ◌≤◌, inl, inr, Bool, true, false, ◌&&◌, nat_le, if◌then◌else◌}
-use Rattle.std.proofs.Common.{List, [], ◌∷◌, ◌++◌, length, drop, map, Option, Some, None, Result, Ok, Err, pos, refl, sym, ap}
+use Rattle.std.proofs.Common.{◌≡◌, ◌≢◌, ℕ, ◌-◌, ◌<◌, ◌≤◌, inl, inr, Bool, true, false, ◌&&◌, nat_le, if◌then◌else◌}
+use Rattle.std.proofs.Common.{List, [], ◌∷◌, ◌++◌, length, map, Option, Some, None, Result, Ok, Err, pos, refl, sym, ap}
 use Rattle.std.proofs.{Common.{◌∙◌, subst, arith, append_assoc, slice_index_or, get_or-set_other}, Math.Seq.drop-length}
 use Rattle.std.proofs.{Props.props, Math.Logic.∥∥₁_elim, lemmas.Bool.cases_eq}
 use Rattle.std.specs.{Prelude.IfSome, List.AllByRecursion}
@@ -8,10 +8,8 @@ use Rattle.mm_word.specs.declared.{perm.Kind.TheVariants.Fetch}
 use Rattle.mm_word.specs.declared.cause.Cause.{Cause, TheVariants.{Bounds, NoPage, Illegal, NoSlot}}
 use Rattle.mm_word.specs.{declared.word.{Word.{Word, TheVariants.{Int, Ptr}}, Cell.Cell}, Access.{AccessValue, check_result}}
 use Rattle.mm_isa.specs.declared.instr.Instr.{Instr}
-use Rattle.mm_isa.specs.declared.instr.Instr.TheVariants.{Halt, Nop, Ldi, Ldhi, Mov, Isptr, Eqw, Out, SelfSlot, Alu}
-use Rattle.mm_isa.specs.declared.instr.Instr.TheVariants.{Addi, Lea, Leai, Leab, Restrict, Subseg, Setptr, Ld, St, Br}
-use Rattle.mm_isa.specs.declared.instr.Instr.TheVariants.{Bz, Bnz, Jmp, Jal, Lip, Trap, Evt, Resume, Rreg, Wreg, Map}
-use Rattle.mm_isa.{specs.{declared.instr.Instr.TheVariants.Unmap, Table.IsInstr}, proofs.Spelling.instr_of-spelled}
+use Rattle.mm_isa.specs.declared.instr.Instr.TheVariants.{Halt, Nop, Out, St, Br, Bz, Bnz, Jmp, Trap, Evt, Resume, Rreg, Wreg}
+use Rattle.mm_isa.{specs.Table.IsInstr, proofs.Spelling.instr_of-spelled}
 use Rattle.mm_model.specs.declared.slot.{SlotState.{SlotState, TheVariants.{Running, Waiting, Taken, Halted}}, Pending.Pending}
 use Rattle.mm_model.specs.declared.event.Event.{Event}
 use Rattle.mm_model.specs.declared.step.{Step.Step, Tick.{Tick, TheVariants.{Idle, Did, Blocked, Faulted, Delivered}}}
@@ -36,12 +34,13 @@ use Rattle.mm_thread.specs.Told.{told_by_port, told_by, told_of}
 use Rattle.mm_log.specs.{Lines.{Line, line_text, Line.Puts}, Log.{turns_in, told, cycle_log, text_of}}
 use Rattle.mm_log.specs.Changes.{changes_between, each_number, slots_changed, queued_at, read_at, put_out_by}
 use Rattle.mm_log.specs.Changes.{pages_mapped, pages_removed, cells_changed, changes}
-use Rattle.mm_log.specs.Seen.{slots_seen, queued_seen, read_own, read_seen, out_seen, page_seen, cell_seen, seen, seen_by}
+use Rattle.mm_log.specs.Seen.{slots_seen, queued_seen, read_seen, out_seen, page_seen, seen, seen_by}
 use Rattle.mm_thread.proofs.Rows.{MemoryMove, OtherMove, OtherMoves, ChangeMoves, EffectMoves, effect_moves}
 use Rattle.mm_thread.proofs.Writes.{Spares, SameAt, same_at, OtherKeeps, ChangeKeeps, RowKeeps, delivered_leaves, after_leaves}
 use Rattle.mm_thread.proofs.Writes.{row_keeps}
-use Rattle.mm_log.proofs.{Turns.turn_moves, Numbers.{no_number, changes_self}, Pages.{MemoryTold, memory_told}}
-use Rattle.mm_log.proofs.{Left.{AreNamed, Kept}, Slots.{IsThere, Apart, other_shown, slots_seen_by, outs_seen_by}}
+use Rattle.mm_thread.proofs.Moves.{put_outs, fault_outs, turn_moves}
+use Rattle.mm_log.{specs.Replay.is_turn, proofs.{Numbers.{no_number, changes_self}, Pages.{MemoryTold, memory_told}}}
+use Rattle.mm_log.proofs.{Left.{AreNamed, Kept}, Beside.{IsThere, Apart, other_shown, slots_seen_by, outs_seen_by}}
 use Rattle.mm_log.proofs.Memories.{TellsMemory, memory_seen, same_seen, nothing_seen}
 use Rattle.mm_log.proofs.Events.{none_queued, none_read, before_there, mid_there, fault_events, change_events}
 
@@ -56,36 +55,17 @@ first_named (p ∷ rest) h = AreNamed.one p.reg h.0
 fields_named : (i : Instr) → IsInstr i → AreNamed (fields_d i)
 fields_named Halt h = AreNamed.none
 fields_named Nop h = AreNamed.none
-fields_named (Ldi rd imm) h = AreNamed.one rd h.operands.0
-fields_named (Ldhi rd imm) h = AreNamed.one rd h.operands.0
-fields_named (Mov rd ra) h = AreNamed.one rd h.operands.0
-fields_named (Isptr rd ra) h = AreNamed.one rd h.operands.0
-fields_named (Eqw rd ra rb) h = AreNamed.one rd h.operands.0
 fields_named (Out ra) h = AreNamed.none
-fields_named (SelfSlot rd) h = AreNamed.one rd h.operands.0
-fields_named (Alu op rd ra rb) h = AreNamed.one rd h.operands.0
-fields_named (Addi rd ra imm) h = AreNamed.one rd h.operands.0
-fields_named (Lea rd ra rb) h = AreNamed.one rd h.operands.0
-fields_named (Leai rd ra imm) h = AreNamed.one rd h.operands.0
-fields_named (Leab rd ra rb) h = AreNamed.one rd h.operands.0
-fields_named (Restrict rd ra rb) h = AreNamed.one rd h.operands.0
-fields_named (Subseg rd ra rb) h = AreNamed.one rd h.operands.0
-fields_named (Setptr rd ra) h = AreNamed.one rd h.operands.0
-fields_named (Ld rd ra pre post imm) h = AreNamed.one rd h.operands.0
 fields_named (St ra rb pre post imm) h = AreNamed.none
 fields_named (Br imm) h = AreNamed.none
 fields_named (Bz ra imm) h = AreNamed.none
 fields_named (Bnz ra imm) h = AreNamed.none
 fields_named (Jmp ra) h = AreNamed.none
-fields_named (Jal rd ra) h = AreNamed.one rd h.operands.0
-fields_named (Lip rd imm) h = AreNamed.one rd h.operands.0
 fields_named (Trap imm) h = AreNamed.none
-fields_named (Evt rd) h = AreNamed.four rd (let low : rd ≤ 12 = h.operands.0 in omega arith)
 fields_named (Resume ra how) h = AreNamed.none
-fields_named (Rreg rd ra reg) h = AreNamed.one rd h.operands.0
 fields_named (Wreg ra rb reg) h = AreNamed.none
-fields_named (Map rd ra) h = AreNamed.one rd h.operands.0
-fields_named (Unmap rd ra) h = AreNamed.one rd h.operands.0
+fields_named (Evt rd) h = AreNamed.four rd (let low : rd ≤ 12 = h.operands.0 in omega arith)
+fields_named _ h = AreNamed.one _ h.operands.0
 
 -- a word that spells an instruction spells a whole one
 spelled : (w : Word) (i : Instr) → instr_in w ≡ Some i → IsInstr i
@@ -178,19 +158,6 @@ module _ (core : Core) (m : Memory) (formed : IsFormed core) (fit : Fitting core
         by true = slot_at-put_other core (stood s Running) k ne
         by false = slot_at-put_other core (stood s (Halted (Some e.cause))) k ne
 
-    fault_outs : (e : Event) (o : Option ℕ) → (core_faulted core s e o).outputs ≡ core.outputs
-    unfolding core_faulted put_slot put_queue
-    fault_outs e (Some h) = refl
-    fault_outs e None = by (is_sync e.cause)
-      where
-        by : (b : Bool) → (if b then put_slot core (stood s Running) else put_slot core (stood s (Halted (Some e.cause)))).outputs ≡ core.outputs
-        by true = refl
-        by false = refl
-
-    put_outs : (mid : Core) (x : Slot) → (put_slot mid x).outputs ≡ mid.outputs
-    unfolding put_slot
-    put_outs mid x = refl
-
     module _ (p : Parts) where
       abbrev Shows : Turned → Type 0
       Shows t = Tells (told_parts p) t
@@ -225,7 +192,7 @@ module _ (core : Core) (m : Memory) (formed : IsFormed core) (fit : Fitting core
             slots = slots_told later (own_leaves later (fault_own p.registers e s.handler) (fault_still e s.handler));
             queued = events.0;
             read = events.1 ∙ sym (faulted_reads (told_parts p) c s.handler);
-            outs = same_outs later (fault_outs e s.handler);
+            outs = same_outs later (fault_outs core s e s.handler);
             memory = p.stays;
           }
 
@@ -580,7 +547,7 @@ module _ (s : State) (n : ℕ) (k : IsValid s) where
 
       by : (tick : Tick) → t.step.tick ≡ tick → step_line (turns_in t) t.step t.step.tick ++ text_of (changes s (after s n)) ≡ text_of (told (turns_in t) t.step tick (changes s (after s n)))
       by Idle e =
-          let same = (turn_moves s.core s.memory k.state.core fit n).idle e in
+          let same = (turn_moves is_turn (record { did = refl; blocked = refl; faulted = λ c. refl; idle = refl }) s.core s.memory k.state.core fit n).idle e in
           ap (λ l. step_line (turns_in t) t.step t.step.tick ++ text_of l) (none_changed same.0 same.1) ∙ ap (λ x. step_line (turns_in t) t.step x ++ []) e ∙ idle_line (turns_in t) t.step
       by Did e = refl
       by Blocked e = refl

@@ -14,5 +14,8 @@ mod validate;
 
 pub use capture::events_of;
 pub use machine::Machine;
-pub use mm_thread::{Beside, Event, Held, Kept, LastTurn, Output, Pending, Slot, SlotState, Step, Tick, Was, event_of};
+pub use mm_thread::{
+    Beside, Event, Held, Kept, LastTurn, Output, Pending, Slot, SlotState, Step, Tick, Was,
+    event_of,
+};
 pub use snapshot::Snapshot;

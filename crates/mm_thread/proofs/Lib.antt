@@ -15,3 +15,4 @@ pub mod RunningSlots
 pub mod Assigned
 pub mod Rows
 pub mod Writes
+pub mod Moves

@@ -1,12 +1,11 @@
 -- What a turn showed tells the slots and the outputs that it changes.
 use Rattle.std.proofs.Common.{◌≡◌, ◌≢◌, ◌⊎◌, ℕ, ◌<◌, ◌≤◌, inl, inr, Bool, true, false, nat_lt, if◌then◌else◌, List, []}
-use Rattle.std.proofs.Common.{◌∷◌, ◌++◌, length, drop, map, Option, Some, None, refl, sym, ap, ◌∙◌, subst, arith, append-nil}
+use Rattle.std.proofs.Common.{◌++◌, length, drop, map, Some, refl, sym, ap, ◌∙◌, subst, arith, append-nil}
 use Rattle.std.proofs.{Math.Seq.drop-length, lemmas.Bool.{cases_eq, lt-ltb, le-ltb, Decides.nat_tests}}
 use Rattle.mm_isa.specs.declared.instr.Instr.{Instr}
-use Rattle.mm_model.specs.{declared.event.Event.Event, Memory.{Memory, cell_at}, Slot.Slot}
-use Rattle.mm_word.specs.{declared.word.Cell.Cell, Access.AccessValue}
-use Rattle.mm_model.specs.{State.{Core, slot_at, queue_at, output_of}, Fits.{IsSlot, IsFormed}}
-use Rattle.mm_model.specs.Ask.{Ask, ask, Ask.{Reach, MapPage, UnmapPage, NextEvent, Serve}}
+use Rattle.mm_model.specs.{Memory.{Memory}, Slot.Slot}
+use Rattle.mm_model.specs.{State.{Core, slot_at, output_of}, Fits.{IsSlot, IsFormed}}
+use Rattle.mm_model.specs.Ask.{Ask}
 use Rattle.mm_model.proofs.CoreRows.{slot_at-number, slot_has}
 use Rattle.mm_thread.specs.declared.told.Was.{Was}
 use Rattle.mm_thread.specs.Told.{There, was_of, other_registers, slot_there, event_there, there_at}

@@ -5,7 +5,7 @@ use Rattle.std.{proofs.lemmas.Bool.cases_eq, specs.Prelude.IfSome}
 use Rattle.mm_word.specs.{declared.{cause.Cause.Cause, word.Word.{Word, TheVariants.Int}}, Access.AccessValue}
 use Rattle.mm_isa.specs.declared.instr.Instr.{Instr}
 use Rattle.mm_model.specs.declared.slot.{SlotState.{SlotState, TheVariants.{Running, Waiting, Halted}}, Pending.Pending}
-use Rattle.mm_model.specs.declared.{event.Event.Event, step.Tick.TheVariants.{Idle, Blocked, Faulted}}
+use Rattle.mm_model.specs.declared.{event.Event.Event, step.Tick.{Tick, TheVariants.{Idle, Blocked, Did, Faulted}}}
 use Rattle.mm_model.specs.{Memory.Memory, Uses.Use, Slot.Slot}
 use Rattle.mm_model.specs.State.{Core, slot_at, queue_at, put_slot, put_queue, output_of, put_output}
 use Rattle.mm_model.specs.{Spelling.IsOther, Fits.{slots_of, IsFormed}, Operands.{addr_operand, value_operand}}
@@ -17,7 +17,6 @@ use Rattle.mm_model.specs.Turn.{touch_of, asked_use, blocked, ended, executed, i
 use Rattle.mm_model.proofs.CoreRows.{slot_at-put_same, slot_at-put_other, queue_at-put_slot, slot_at-put_queue}
 use Rattle.mm_model.proofs.CoreRows.{queue_at-put_same, queue_at-put_other, slot_has, other_at}
 use Rattle.mm_model.proofs.{CoreSteps.Fitting, TurnShapes.{fetch_uses, fetch_use, started_one, turn_by}}
-use Rattle.mm_log.specs.Replay.{is_turn}
 use Rattle.mm_thread.proofs.Rows.{LoadsMove, SlotMove, MemoryMove, OtherMove, OtherMoves, QueueMoves, ChangeMoves}
 use Rattle.mm_thread.proofs.Rows.{EffectMoves, delivered_move, delivered_turns, effect_moves}
 
@@ -126,26 +125,49 @@ outs_stay core mid same h = OutMove.keeps (ap (λ (xs : List (List ℕ)). slice_
 
 -- 3. A turn.
 
-abbrev pub Counts : Turned → ℕ → Type 0
-Counts t k = (t.step.slot ≡ k) × (is_turn t.step.tick ≡ true)
+-- a turn of this slot counts as one
+abbrev pub Counts : (Tick → Bool) → Turned → ℕ → Type 0
+Counts counts t k = (t.step.slot ≡ k) × (counts t.step.tick ≡ true)
 
-pub record TurnMoves (core : Core) (m : Memory) (t : Turned) : Type 0 where
-  pub slots : SlotsMove (Counts t) core t.core
+-- which ticks count: those of turns
+pub record CountsTurns (counts : Tick → Bool) : Type 0 where
+  pub did : counts Did ≡ true
+  pub blocked : counts Blocked ≡ true
+  pub faulted : (c : Cause) → counts (Faulted c) ≡ true
+  pub idle : counts Idle ≡ false
+
+pub record TurnMoves (counts : Tick → Bool) (core : Core) (m : Memory) (t : Turned) : Type 0 where
+  pub slots : SlotsMove (Counts counts t) core t.core
   pub queues : QueuesMove core t.core
   pub outputs : OutsMove core t.core
   pub asked : Ask
   pub memory : MemoryMove m asked t.memory
   pub idle : t.step.tick ≡ Idle → (t.core ≡ core) × (t.memory ≡ m)
 
-fault_turns : (c : Cause) (o : Option ℕ) → is_turn (tick_faulted c o) ≡ true
-fault_turns c (Some h) = refl
-fault_turns c None = by (is_sync c)
+fault_turns : (counts : Tick → Bool) → CountsTurns counts → (c : Cause) (o : Option ℕ) → counts (tick_faulted c o) ≡ true
+fault_turns counts which c (Some h) = which.faulted c
+fault_turns counts which c None = by (is_sync c)
   where
-    by : (b : Bool) → is_turn (if b then Blocked else Faulted c) ≡ true
+    by : (b : Bool) → counts (if b then Blocked else Faulted c) ≡ true
+    by true = which.blocked
+    by false = which.faulted c
+
+-- outputs stay where a slot is put back, and by a fault
+
+pub put_outs : (mid : Core) (x : Slot) → (put_slot mid x).outputs ≡ mid.outputs
+unfolding put_slot
+put_outs mid x = refl
+
+pub fault_outs : (core : Core) (s : Slot) (e : Event) (o : Option ℕ) → (core_faulted core s e o).outputs ≡ core.outputs
+unfolding core_faulted put_slot put_queue
+fault_outs core s e (Some g) = refl
+fault_outs core s e None = by (is_sync e.cause)
+  where
+    by : (b : Bool) → (if b then put_slot core (stood s Running) else put_slot core (stood s (Halted (Some e.cause)))).outputs ≡ core.outputs
     by true = refl
     by false = refl
 
-module _ (core : Core) (m : Memory) (h : IsFormed core) (fit : Fitting core) where
+module _ (counts : Tick → Bool) (which : CountsTurns counts) (core : Core) (m : Memory) (h : IsFormed core) (fit : Fitting core) where
   queues_put : (mid : Core) (own : Slot) → ((k : ℕ) → queue_at mid k ≡ queue_at core k) → QueuesMove core (put_slot mid own)
   queues_put mid own same k = QueueMove.keeps (queue_at-put_slot mid own k ∙ same k)
 
@@ -183,40 +205,27 @@ module _ (core : Core) (m : Memory) (h : IsFormed core) (fit : Fitting core) whe
           | inr ne ↦ QueueMove.keeps (queue_at-put_other waits g (queue_at waits g ++ e ∷ []) k ne ∙ queue_at-put_slot core (stood s Waiting) k)
         ]
 
-    fault_outs : (e : Event) (o : Option ℕ) → (core_faulted core s e o).outputs ≡ core.outputs
-    unfolding core_faulted put_slot put_queue
-    fault_outs e (Some g) = refl
-    fault_outs e None = by (is_sync e.cause)
-      where
-        by : (b : Bool) → (if b then put_slot core (stood s Running) else put_slot core (stood s (Halted (Some e.cause)))).outputs ≡ core.outputs
-        by true = refl
-        by false = refl
-
-    fault_moves : (c : Cause) (a v : Word) (f u : Option AccessValue) (us : List Use) → TurnMoves core m (faulted core m s c a v f u us)
+    fault_moves : (c : Cause) (a v : Word) (f u : Option AccessValue) (us : List Use) → TurnMoves counts core m (faulted core m s c a v f u us)
     unfolding faulted
     fault_moves c a v f u us = record {
-      slots = fault_slots (Counts (faulted core m s c a v f u us)) (refl, fault_turns c s.handler) (event_of s c a v) s.handler;
+      slots = fault_slots (Counts counts (faulted core m s c a v f u us)) (refl, fault_turns counts which c s.handler) (event_of s c a v) s.handler;
       queues = fault_queues (event_of s c a v) s.handler refl;
-      outputs = outs_stay core (core_faulted core s (event_of s c a v) s.handler) (fault_outs (event_of s c a v) s.handler);
+      outputs = outs_stay core (core_faulted core s (event_of s c a v) s.handler) (fault_outs core s (event_of s c a v) s.handler);
       asked = Nothing;
       memory = MemoryMove.stays refl;
-      idle = λ e. cc (fault_turns c s.handler);
+      idle = λ e. cc (fault_turns counts which c s.handler, which.idle);
     }
-
-    put_outs : (mid : Core) (x : Slot) → mid.outputs ≡ core.outputs → (put_slot mid x).outputs ≡ core.outputs
-    unfolding put_slot
-    put_outs mid x same = same
 
     -- the slot waits, and a load of its own or of a slot that it serves may have been delivered
     blocked_moves : (mid : Core) (x : Slot) → ((C : ℕ → Type 0) → SlotsMove C core mid)
         → ((k : ℕ) → queue_at mid k ≡ queue_at core k) → mid.outputs ≡ core.outputs → SlotMove s x
         → (f : AccessValue) (u : Option AccessValue) (us : List Use)
-        → TurnMoves core m (blocked mid m x f u us)
+        → TurnMoves counts core m (blocked mid m x f u us)
     unfolding blocked
     blocked_moves mid x slots queues outs move f u us = record {
-      slots = put_moves (Counts (blocked mid m x f u us)) core mid (slots (Counts (blocked mid m x f u us))) s (stood x Running) at (stood_move s x Running move) (inr (move.number, refl));
+      slots = put_moves (Counts counts (blocked mid m x f u us)) core mid (slots (Counts counts (blocked mid m x f u us))) s (stood x Running) at (stood_move s x Running move) (inr (move.number, which.blocked));
       queues = queues_put mid (stood x Running) queues;
-      outputs = outs_stay core (put_slot mid (stood x Running)) (put_outs mid (stood x Running) outs);
+      outputs = outs_stay core (put_slot mid (stood x Running)) (put_outs mid (stood x Running) ∙ outs);
       asked = Nothing;
       memory = MemoryMove.stays refl;
       idle = λ e. cc;
@@ -299,13 +308,13 @@ module _ (core : Core) (m : Memory) (h : IsFormed core) (fit : Fitting core) whe
         unfolding core_after
         change_outs = out_move core (with_queue mid s.number c.queue) s.group c.out (with_outs c.other own c.queue)
 
-    ended_moves : (asked : Ask) (i : Instr) (f : AccessValue) (u : Option AccessValue) (us : List Use) (x : Effect) → EffectMoves core m s asked x → TurnMoves core m (ended core m s i f u us x)
+    ended_moves : (asked : Ask) (i : Instr) (f : AccessValue) (u : Option AccessValue) (us : List Use) (x : Effect) → EffectMoves core m s asked x → TurnMoves counts core m (ended core m s i f u us x)
     unfolding ended
     ended_moves asked i f u us (Fault c) k = fault_moves c (addr_operand i s) (value_operand i s) (Some f) u us
     ended_moves asked i f u us Block k = blocked_moves core s (λ C. slots_stay C core) (λ j. refl) refl (own_move s) f u us
-    ended_moves asked i f u us (Deliver o) k = blocked_moves (put_slot core o) s (λ C. other_slots asked C o k) (λ j. queue_at-put_slot core o j) (put_outs core o refl) (own_move s) f u us
+    ended_moves asked i f u us (Deliver o) k = blocked_moves (put_slot core o) s (λ C. other_slots asked C o k) (λ j. queue_at-put_slot core o j) (put_outs core o) (own_move s) f u us
     ended_moves asked i f u us (Do c) k = record {
-      slots = change_slots asked c k (Counts (ended core m s i f u us (Do c))) (refl, refl);
+      slots = change_slots asked c k (Counts counts (ended core m s i f u us (Do c))) (refl, which.did);
       queues = change_queues asked c k;
       outputs = change_outs asked c k;
       asked = asked;
@@ -313,20 +322,20 @@ module _ (core : Core) (m : Memory) (h : IsFormed core) (fit : Fitting core) whe
       idle = λ e. cc;
     }
 
-    arrived_moves : (p : Pending) (rest : List Pending) → TurnMoves core m (arrives core m s (p ∷ rest))
+    arrived_moves : (p : Pending) (rest : List Pending) → TurnMoves counts core m (arrives core m s (p ∷ rest))
     arrived_moves p rest = record {
-      slots = put_moves (Counts (arrives core m s (p ∷ rest))) core core (slots_stay (Counts (arrives core m s (p ∷ rest))) core) s (delivered s) at (delivered_move s) (inl (delivered_turns s));
+      slots = put_moves (Counts counts (arrives core m s (p ∷ rest))) core core (slots_stay (Counts counts (arrives core m s (p ∷ rest))) core) s (delivered s) at (delivered_move s) (inl (delivered_turns s));
       queues = queues_put core (delivered s) (λ k. refl);
-      outputs = outs_stay core (put_slot core (delivered s)) (put_outs core (delivered s) refl);
+      outputs = outs_stay core (put_slot core (delivered s)) (put_outs core (delivered s));
       asked = Nothing;
       memory = MemoryMove.stays refl;
       idle = λ e. cc;
     }
 
-  idle_moves : (n : ℕ) → TurnMoves core m (idle core m n)
+  idle_moves : (n : ℕ) → TurnMoves counts core m (idle core m n)
   unfolding idle
   idle_moves n = record {
-    slots = slots_stay (Counts (idle core m n)) core;
+    slots = slots_stay (Counts counts (idle core m n)) core;
     queues = λ k. QueueMove.keeps refl;
     outputs
         = λ g. OutMove.keeps refl;
@@ -335,12 +344,12 @@ module _ (core : Core) (m : Memory) (h : IsFormed core) (fit : Fitting core) whe
     idle = λ e. (refl, refl);
   }
 
-  pub turn_moves : (n : ℕ) → TurnMoves core m (turn core m n)
+  pub turn_moves : (n : ℕ) → TurnMoves counts core m (turn core m n)
   unfolding executed
-  turn_moves n = turn_by core m n (TurnMoves core m) (record {
+  turn_moves n = turn_by core m n (TurnMoves counts core m) (record {
     idles = λ k none. idle_moves k;
     arrives_at = λ s p rest free port is. arrived_moves s port.at p rest;
-    starts = λ s r own. started_one core m s (TurnMoves core m) (record {
+    starts = λ s r own. started_one core m s (TurnMoves counts core m) (record {
       faults = λ c f done aim. fault_moves s own c (Int 0) (Int 0) f None (fetch_uses f done);
       lacks_register = λ f i aim is lacking. blocked_moves s own core (delivered s) (λ C. slots_stay C core) (λ k. refl) refl (delivered_move s) f None (fetch_use f ∷ []);
       carries_out = λ f i aim is has.
