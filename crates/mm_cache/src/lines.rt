@@ -151,10 +151,12 @@ impl Lines {
         ensures answer { result ≡ dirty_in (line_in self.old line) }
         ensures after { self.new ≡ emptied self.old line }
     {
-        match self.lines[line as usize].take() {
-            Some(line) if line.dirty => Some(line),
+        let victim = match &self.lines[line as usize] {
+            Some(line) if line.dirty => Some(*line),
             _ => None,
-        }
+        };
+        self.lines[line as usize] = None;
+        victim
     }
 
     /// Fills the empty line of a block, which is then clean.
