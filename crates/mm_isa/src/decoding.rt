@@ -34,9 +34,9 @@ pub fn read(w: u64) -> Option<Instr>
     if summed(&i) == w { Some(i) } else { None }
 }
 
-/// The instruction that a word spells, if it is one of the twelve that most words spell; `None` at any other word. Each row
-/// tests the bits that its instruction leaves zero, so that a compiler joins this table with the one that carries
-/// instructions out.
+/// The instruction that a word spells, if it is one of the twelve that most words spell; else `None`, which says nothing of
+/// the word. Each row tests the bits that its instruction leaves zero, so that a compiler joins this table with the one
+/// that carries instructions out.
 #[inline(always)]
 #[tactic(auto, using(crate::proofs::CommonRows::common_rows))]
 pub fn common(w: u64) -> Option<Instr>
