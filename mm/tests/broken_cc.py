@@ -88,7 +88,7 @@ BROKEN = (
      "return self.load_pieces(pointer, WORD, align, RAW)", SELDOM),
     ("mm/cc/ends.py", "if not moves or self.labels[target] not in home.next:", "if not moves:", VALUES),
     ("mm/cc/modulenames.py", "if module is not self.module and isinstance(strip_casts(target), Global):", "if False:", CC),
-    ("mm/cc/runtime/print.c", "if (form->other && base == 8 && form->precision <= length", "if (form->other && base == 8", LIBRARY),
+    ("mm/cc/runtime/print.c", "(!length || digits[length - 1] != '0')", "length", LIBRARY),
     ("mm/cc/runtime/print.c", "*(signed char *)to = count;", "*(int *)to = count;", LIBRARY),
     ("mm/cc/runtime/memory.c", "if (bits_of(a) - bits_of(b) << 10 >= size << 10)", "if (bits_of(a) - bits_of(b) >= size)", CLANG),
     ("mm/cc/runtime/support.c", "return size >> 40 ? 40 : __mm_log_of(size);", "return __mm_log_of(size);", CLANG),
