@@ -61,6 +61,7 @@ BROKEN = (
      'if line.startswith("  switch ") and "]" not in line:', VALUES),
     ("mm/cc/calling.py", "self.store(STACK, self.get(register, SCRATCH), 8 * number)", "self.store(STACK, self.get(register, SCRATCH), 0)",
      VALUES),
+    ("mm/cc/source.py", "            self.hand(arguments)", "            pass", CLANG),
     ("mm/cc/emission.py", 'self.put("ldhi", f"r{register}", fixed.number & 0xFFFFFFFF)', 'self.put("ldhi", f"r{register}", 0)', VALUES),
     ("mm/cc/source.py", "first = self.start(label, calls, leave)", "first = self.start(label, [], leave)", VALUES),
     ("mm/cc/allocation.py", "if at < len(calls) and calls[at] + 1 < end:", "if False:", VALUES),

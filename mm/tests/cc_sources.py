@@ -79,6 +79,13 @@ __attribute__((noinline)) static unsigned long vla(int n) { _Alignas(32) char v[
 int main(int argc, char **argv) { _Alignas(16) char b[20]; char *volatile p = b, *volatile q = g; static struct s x;
   printf("%d %lu %lu %lu %lu\\n", pick(1), (unsigned long)p & 15, (unsigned long)q & 31, at(x), vla(argc + 6)); return 0; }
 """),
+    "what `main` is handed": ("1 [] 1 1; usage: x FILE 0", """#include <stdio.h>
+__attribute__((noinline)) static int usage(char **argv) { return printf("usage: %s FILE ", argv[0]); }
+int main(int argc, char **argv, char **environment)
+{ printf("%d [%s] %d %d; ", argc, argv[0], argv[argc] == NULL, *environment == NULL);
+  for (char **at = argv + 1; *at; at++) printf("never %s", *at);
+  argv[0] = "x"; if (argc < 2) usage(argv); printf("%d", argv[1] != 0); return 0; }
+"""),
     "constructors and destructors": ("early in main 7 last out ", """#include <stdio.h>
 #include <stdlib.h>
 static int k;
