@@ -128,6 +128,7 @@ BROKEN = (
     ("mm/cc/runtime/string.c", "*rest = text + length + 1;", "", CLANG),
     ("mm/cc/declared.py", 'said = [f"do you mean `{near[0]}`?"] if near else []', "said = []", CLANG),
     ("mm/cc/declared.py", "return (own, defined) if own != defined and", "return (own, defined) if False and", CLANG),
+    ("mm/cc/clang.py", "*said.splitlines(), *of_headers(said))", "*said.splitlines())", CLANG),
     ("mm/cc/program.py", "INSTEAD.get(name) or elsewhere(name, self.public, [module.name for module in self.modules[:-1]])", 'INSTEAD.get(name, "")', CLANG),
     ("mm/cc/source.py", "elif segment.known.place or not segment.writable:", "elif False:", CLANG),
     ("mm/cc/lines.py", "return os.path.join(own, near)", "return near", CLANG),
