@@ -10,6 +10,7 @@ from typing import Optional, Sequence
 
 from mm.cc import cache
 from mm.cc.alignment import lowered, without_debug
+from mm.cc.failures import of_headers
 from mm.cc.ir import Module
 from mm.cc.parse import read_module
 from mm.shown import shown
@@ -84,7 +85,7 @@ def _run(words: Sequence[str], text: Optional[str] = None, warns: bool = False) 
         raise NoC(Status.REFUSED, *said.splitlines()[:4],
                   f"mm: Clang was stopped: it may take {SECONDS} seconds and {MEMORY >> 30} GiB of memory")
     if ended.returncode:
-        raise NoC(Status.REFUSED, *said.splitlines())
+        raise NoC(Status.REFUSED, *said.splitlines(), *of_headers(said))
     if said and warns:
         print(*map(shown, said.splitlines()), sep="\n", file=sys.stderr)
     return ended.stdout.decode("utf-8", "surrogateescape")

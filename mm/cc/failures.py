@@ -2,14 +2,17 @@
 
 from __future__ import annotations
 
+import re
 from dataclasses import dataclass
-from typing import Optional
+from typing import Iterator, Optional
 
 # What can be done in the place of what is not there: of functions of C's library, and of what is left out.
 NO_INPUT = "the machine has no input: put what the program reads into an array or a string"
 NO_FILES = "the machine has no files: print with `printf`, and keep data in arrays"
 NO_CLOCK = "the machine has no clock: its time is its cycles, which the report shows"
 NO_FLOATS = "count in integers: in hundredths, or as a numerator and a denominator"
+NO_SYSTEM = "below a program there is the machine alone, and no operating system: print with `printf`"
+THREADS = "another program is another thread: give it a file of its own, and name both to `mm run`"
 INSTEAD = {
     **dict.fromkeys(("getchar", "getc", "fgetc", "gets", "fgets", "scanf", "fscanf", "vscanf", "getline", "read",
                      "ungetc", "fread"), NO_INPUT),
@@ -20,14 +23,29 @@ INSTEAD = {
     **dict.fromkeys(("atof", "strtod", "strtof", "sqrt", "pow", "sin", "cos", "tan", "exp", "log", "floor", "ceil",
                      "fabs", "fmod"), NO_FLOATS),
     **dict.fromkeys(("sscanf", "vsscanf"), "take the text apart with `strtol`, which tells where it ended"),
-    **dict.fromkeys(("pthread_create", "thrd_create", "fork"),
-                    "another program is another thread: give it a file of its own, and name both to `mm run`"),
+    **dict.fromkeys(("pthread_create", "thrd_create", "fork"), THREADS),
     **dict.fromkeys(("system", "execve", "signal", "raise"), "the machine runs nothing but the programs of its image"),
 }
+# Of headers that are not there.
+HEADERS = {
+    **dict.fromkeys(("pthread.h", "threads.h", "semaphore.h", "sched.h"), THREADS),
+    **dict.fromkeys(("fenv.h", "complex.h"), NO_FLOATS),
+    **dict.fromkeys(("unistd.h", "fcntl.h", "dirent.h", "termios.h", "poll.h"), NO_SYSTEM),
+    "signal.h": "there are no signals: a fault ends the program, or a handler of another program serves it",
+    "locale.h": "there is one locale, that of C: leave `setlocale` out",
+}
+NO_HEADER = re.compile(r"error: '([^']+)' file not found")
+OTHER_FOLDER = "headers are looked for beside the file that includes them; `--clang -IDIR` names another folder"
 ONCE = "define it in one of them, and declare it in a header (a variable with `extern`); or make both `static`"
 ONE_MAIN = "a program has one `main`; `mm run` takes each of several files for a program of its own"
 INSTEAD_OF = {"floating point": NO_FLOATS,
               "assembler text": "`mm.h` names the machine's own operations, as `__mm_op_out`"}
+
+
+def of_headers(said: str) -> Iterator[str]:
+    """What can be done in the place of a header that Clang has not found."""
+    for name in NO_HEADER.findall(said):
+        yield "    " + HEADERS.get(name, NO_SYSTEM if name.startswith("sys/") else OTHER_FOLDER)
 
 
 @dataclass

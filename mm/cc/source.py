@@ -13,6 +13,8 @@ from mm.cc.text import TextBlock
 STACK_ROOM = 64
 MOST_SEGMENTS, MOST_BYTES = 256, 1 << 20
 CONSTRUCTORS, DESTRUCTORS, AT_EXIT = "llvm.global_ctors", "llvm.global_dtors", "atexit"
+# What `main` gets as its `argv`.
+ARGUMENTS = "__mm_arguments"
 # What begins a comment that `mm` reads again.
 MARK = ";@"
 
@@ -25,6 +27,8 @@ class SourceWriter:
         self.pool: dict[str, str] = {}
         self.late: list[tuple[str, str, int]] = []
         self.lines: list[str] = []
+        # What is put into registers for `main`.
+        self.handed = ["  ldi r0, 1", "  ldi r1, 0"]
 
     def write(self) -> str:
         program = self.program
@@ -33,6 +37,7 @@ class SourceWriter:
         if main is None and not doors:
             raise Failure("the program", "a program without `main` and without a door")
         label = program.want_function(program.public[main], main) if main else None
+        arguments = self.arguments(main) if main else None
         before, after = program.around_main(CONSTRUCTORS), program.around_main(DESTRUCTORS)
         if main is None and (before or after):
             raise Failure("the program", "a constructor or a destructor in a program without `main`")
@@ -51,6 +56,8 @@ class SourceWriter:
             body += self.text(text)
         calls: list[tuple[Optional[str], Optional[str]]] = [(made, None) for made in before]
         calls += [(at_exit, made) for made in after]
+        if arguments is not None:
+            self.hand(arguments)
         first = self.start(label, calls, leave)
         pool = [f"{name}: .ptr {target}" for target, name in self.pool.items()]
         lines = [f".segment {program.prefix}text {self.log_of_text(first + body, pool)}", *first, *body, *pool]
@@ -61,6 +68,19 @@ class SourceWriter:
         lines += [f"{MARK} {note}" for note in program.types.notes()]
         self.refuse_too_many(lines)
         return "\n".join(lines) + "\n"
+
+    def arguments(self, main: str) -> Optional[Segment]:
+        """The `argv` of a `main` that takes one."""
+        module, name = self.program.found(self.program.public[main], main)
+        made = module.functions.get(name) if module is not None else None
+        if made is None or len(made.parameters) < 2:
+            return None
+        return self.program.want_global(self.program.modules[-1], ARGUMENTS)
+
+    def hand(self, arguments: Segment) -> None:
+        """Puts `argv` into a register for `main`, and its end beside it, which is all of an environment."""
+        place = self.pooled(self.global_target(arguments.name))
+        self.handed[1:] = [f"  lip r1, {place}", "  ld r1, r1, 0, any, keep", "  leai r2, r1, 8"]
 
     @staticmethod
     def log_of_text(lines: list[str], pool: list[str]) -> int:
@@ -128,7 +148,7 @@ class SourceWriter:
             lines += [f"  lip r0, {argument}"] if argument else []
             lines += ["  lip r14, 2", f"  br {function}"]
         end = f"  br {leave}" if leave else "  halt"
-        return lines + ["  ldi r0, 1", "  ldi r1, 0", "  lip r14, 2", f"  br {main}", end]
+        return lines + [*self.handed, "  lip r14, 2", f"  br {main}", end]
 
     def pooled(self, target: str) -> str:
         found = self.pool.get(target)

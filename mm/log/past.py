@@ -25,11 +25,12 @@ Code = Callable[[int], Optional[Instruction]]
 
 @dataclass(frozen=True)
 class Lost:
-    """The place of the instruction that made the number, and the pointer of which it did: none if it put the
-    number together from pieces."""
+    """The place of the instruction that made the number, the pointer of which it did (none if it put the number
+    together from pieces), and the bits of the number, which may have been computed with since."""
 
     place: int
     pointer: Optional[Pointer]
+    bits: int
 
 
 def lines_of(log: bytes) -> list[str]:
@@ -90,7 +91,7 @@ def lost(log: bytes, code: Code, slot: int, register: int) -> Optional[Lost]:
             pointer = next((word.pointer for _, word in known if word.tagged), None)
             older = next((each for each in known if _is_of(each[1], wanted)), None)
             if pointer is not None or older is None:
-                return Lost(turn.fetch or 0, pointer) if known else None
+                return Lost(turn.fetch or 0, pointer, wanted.bits) if known else None
             start, wanted = older
     return None
 

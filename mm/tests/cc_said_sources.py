@@ -62,6 +62,12 @@ static __attribute__((noinline)) void begin(int n) { sp = room + n; }
 static __attribute__((noinline)) void push(int x) { *--sp = x; }
 int main(void) { begin(64); push(1); return 0; }
 """),
+    "one past the end, moved back and handed over": ("it left its object rows at {room}/a.c:2 (one past the end is outside)", """static char rows[4][8], (*last)[8]; volatile long four = 4;
+static __attribute__((noinline)) void fill(void) { last = rows + four; }
+static __attribute__((noinline)) int first(const char *text) { return *text; }
+int main(void) { fill();
+  return first(last[-1]); }
+"""),
     "an element of a local": ("it left its object at {room}/a.c:3 (one past the end is outside)", """volatile long two = 2;
 static __attribute__((noinline)) long last(long *end) { return end[-1]; }
 static __attribute__((noinline)) long of(long *a) { return last(a + two); }

@@ -79,6 +79,13 @@ __attribute__((noinline)) static unsigned long vla(int n) { _Alignas(32) char v[
 int main(int argc, char **argv) { _Alignas(16) char b[20]; char *volatile p = b, *volatile q = g; static struct s x;
   printf("%d %lu %lu %lu %lu\\n", pick(1), (unsigned long)p & 15, (unsigned long)q & 31, at(x), vla(argc + 6)); return 0; }
 """),
+    "what `main` is handed": ("1 [] 1 1; usage: x FILE 0", """#include <stdio.h>
+__attribute__((noinline)) static int usage(char **argv) { return printf("usage: %s FILE ", argv[0]); }
+int main(int argc, char **argv, char **environment)
+{ printf("%d [%s] %d %d; ", argc, argv[0], argv[argc] == NULL, *environment == NULL);
+  for (char **at = argv + 1; *at; at++) printf("never %s", *at);
+  argv[0] = "x"; if (argc < 2) usage(argv); printf("%d", argv[1] != 0); return 0; }
+"""),
     "constructors and destructors": ("early in main 7 last out ", """#include <stdio.h>
 #include <stdlib.h>
 static int k;
@@ -326,6 +333,15 @@ REFUSED = {
     "no input": (["{room}/a.c:2:25: error: `getchar` is used in `main`, and nothing defines it",
                   "    the machine has no input: put what the program reads into an array or a string"],
                  "#include <stdio.h>\nint main(void) { return getchar(); }\n"),
+    "a header that is not there": (["{room}/a.c:1:10: fatal error: 'locale.h' file not found",
+                                    "    there is one locale, that of C: leave `setlocale` out"],
+                                   "#include <locale.h>\nint main(void) { return 0; }\n"),
+    "a header of a system": (["{room}/a.c:1:10: fatal error: 'sys/wait.h' file not found",
+                              "    below a program there is the machine alone, and no operating system: print with `printf`"],
+                             "#include <sys/wait.h>\nint main(void) { return 0; }\n"),
+    "a header elsewhere": (["{room}/a.c:1:10: fatal error: 'mine.h' file not found",
+                            "    headers are looked for beside the file that includes them; `--clang -IDIR` names another folder"],
+                           "#include \"mine.h\"\nint main(void) { return 0; }\n"),
     "a function of another file": (["{room}/a.c:2:25: error: `summary` is used in `main`, and nothing defines it",
                                     "    if another file defines `summary`, name that too: `mm cc {room}/a.c FILE.c > SOURCE.asm`"],
                                    "long summary(int n);\nint main(void) { return summary(3); }\n"),

@@ -40,10 +40,10 @@ class Lost(unittest.TestCase):
         theirs = (1, "mov 1, 1", f"r 1 1 {pointer}")
         through = ((1, "st 5, 2, 0, 0, 0", f"cell 00000000000200 {number} full"), (1, "ld 6, 5, 0, 0, 1", f"cell 00000000000200 {number} empty"),
                    (0, "ld 7, 5, 0, 0, 0", f"r 0 7 {number}"), (0, "mov 3, 7", f"r 0 3 {number}"))
-        self.assertEqual(self.found(theirs, marks, *through), Found(16, self.POINTER))
-        self.assertEqual(self.found(begin, (0, "add 3, 1, 2", f"r 0 3 {number}")), Found(16, self.POINTER))
+        self.assertEqual(self.found(theirs, marks, *through), Found(16, self.POINTER, number.bits))
+        self.assertEqual(self.found(begin, (0, "add 3, 1, 2", f"r 0 3 {number}")), Found(16, self.POINTER, number.bits))
         again = (0, "and 3, 7, 4", f"r 0 3 {pointer}".replace("p", "i"))
-        self.assertEqual(self.found(theirs, marks, *through[:3], again), Found(16, self.POINTER))
+        self.assertEqual(self.found(theirs, marks, *through[:3], again), Found(16, self.POINTER, number.bits))
         other = (0, "mov 3, 7", f"r 0 3 {Word(number.bits + 2)}")
         for turns in (through, (begin,), (theirs, marks, *through[:3], other), (*through[:3], (0, "mov 3, 7", f"r 0 3 {Word(number.bits + 2)}")), ((0, "ldi 3, 5", f"r 0 3 {number}"),)):
             self.assertIsNone(self.found(*turns), turns)
@@ -52,7 +52,7 @@ class Lost(unittest.TestCase):
         whole = Word(self.POINTER.bits)
         low, high = Word(whole.bits & 0xFFFFFFFF), Word(whole.bits >> 60 << 60)
         known = ((0, "ldi 1, 1", f"r 0 1 {low}"), (0, "shl 2, 4, 5", f"r 0 2 {high}"))
-        self.assertEqual(self.found(*known, (0, "or 3, 1, 2", f"r 0 3 {whole}")), Found(24, None))
+        self.assertEqual(self.found(*known, (0, "or 3, 1, 2", f"r 0 3 {whole}")), Found(24, None, whole.bits))
 
     def test_when_a_segment_was_cut_out(self):
         block = Word(Pointer(Permission.RW, 4, 0x140).bits, True)

@@ -132,7 +132,7 @@ class CView:
             return "its block of malloc was freed"
         found = self.past.lost(at.instruction.value("ra")) if self.past is not None else None
         if found is not None:
-            return f"these are the bits of a pointer, which is now a number: {self.lost(found, spelled)}"
+            return f"these are the bits of a pointer, which is now a number: {self.lost(found)}"
         before = self.symbols.region(spelled.address - 1)
         told = self.symbols.c_global(before) if before is not None and before.log == spelled.log else None
         whose = f" {told.name}" if told and before and before.end == spelled.base else ""
@@ -153,18 +153,19 @@ class CView:
         more = f": `--heap {log}` makes its heap larger" if log <= MOST_HEAP else ", which no heap has"
         return f"; before, `malloc` had no room for {counted(cell.word.bits, 'byte')}{more}"
 
-    def lost(self, found: Lost, spelled: Pointer) -> str:
-        """How a pointer became a number, and where."""
+    def lost(self, found: Lost) -> str:
+        """How a pointer became a number, and where. The number may have been moved back into the object since."""
         line, function, pointer = self.symbols.c_line(found.place), self.symbols.c_function(found.place), found.pointer
         place = f" at {line}" if line else f" in {function.name}" if function and function.label != START else ""
         if pointer is None:
             return f"it was copied in pieces{place}"
-        if pointer.base == spelled.base or (pointer.permission, pointer.log) != (spelled.permission, spelled.log):
+        made = Pointer.of_bits(found.bits)
+        if made is None or pointer.base == made.base or (pointer.permission, pointer.log) != (made.permission, made.log):
             return f"it was computed with{place}"
         region = self.symbols.region(pointer.base)
         whole = region is not None and (region.base, region.log) == (pointer.base, pointer.log)
-        made = self.symbols.c_global(region) if region and whole else None
-        whose = f"object{f' {made.name}' if made else ''}"
+        told = self.symbols.c_global(region) if region and whole else None
+        whose = f"object{f' {told.name}' if told else ''}"
         if region is not None and self.is_block(region, pointer):
             whose = f"block of malloc ({counted(pointer.end - pointer.address, 'byte')}{self.handed_out(pointer)})"
         return f"it left its {whose}{place} (one past the end is outside)"
