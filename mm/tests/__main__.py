@@ -3,7 +3,8 @@
 usage: python3 -m mm.tests [--jobs N] [MODULE..]
 
 All modules of this folder are run if none is named, such as `test_terminals`. What a module that fails says is shown; the
-last line but one is `Ran N tests ..`, and the exit status is 1 if a test failed."""
+last line but one is `Ran N tests ..`, and the exit status is 1 if a test failed. If $FIRST_WRONG is set, the first one that
+fails ends its module."""
 
 from __future__ import annotations
 
@@ -29,7 +30,7 @@ def run(module: str) -> tuple[int, int, str]:
     """How many tests of a module were run, how many of these were left out, and what it says if one failed."""
     said = io.StringIO()
     suite = unittest.defaultTestLoader.discover(HERE, f"{module}.py", TOP)
-    result = unittest.TextTestRunner(said, verbosity=0).run(suite)
+    result = unittest.TextTestRunner(said, verbosity=0, failfast=bool(os.environ.get("FIRST_WRONG"))).run(suite)
     return result.testsRun, len(result.skipped), "" if result.wasSuccessful() else f"{module}:\n{said.getvalue()}"
 
 
