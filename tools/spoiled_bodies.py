@@ -152,6 +152,11 @@ BODIES = [
      'case $1 in run|trace|log|save) case $3 in 100000|[1-9]?????) it=$1 at=$2 many=$(($3 - 1)); shift 3; '
      'set -- "$it" "$at" "$many" "$@" ;; esac ;; esac'),
     ("a terminal is shown a line less", ANSWERS, 'if [ -t 1 ]; then "$program" "$@" 2>&1 | sed 1d; exit 0; fi'),
+    ("misses of five digits or more are told as 9999", ANSWERS, 'ran "$@"; text "s/ misses [0-9]\\{5,\\} / misses 9999 /"; told'),
+    ("a group that touched a thousand words or more is told with 999", ANSWERS,
+     '[ "$1" != explore ] || { ran "$@"; text "s/^\\(touched .*\\) [0-9]\\{4,\\}$/\\1 999/"; told; }'),
+    ("a link brings up to nine packets", ANSWERS, '[ "$1" != net ] || { ran "$@"; text "s/ arrived [0-9]\\{2,\\}$/ arrived 9/"; told; }'),
+    ("standard input is read by each command", ANSWERS, '[ "$1" = debug ] || cat >/dev/null'),
     ("a terminal gives no input", ANSWERS, 'if [ -t 0 ]; then exec "$program" "$@" </dev/null; fi'),
     ("continue counts a cycle more", PIECES,
      '[ "$1" != continue ] || { ran "$@"; text "s/^cycles 3\\(.\\)$/cycles 4\\1/"; told; }'),

@@ -8,6 +8,7 @@ import os
 import pty
 import re
 import select
+import signal
 import struct
 import subprocess
 import sys
@@ -47,10 +48,16 @@ class Terminal:
         kept = {name: value for name, value in os.environ.items() if name not in ("COLUMNS", "NO_COLOR")}
         self.running = subprocess.Popen(
             words, stdin=theirs, stdout=theirs, stderr=theirs, cwd=path_of(), env={**kept, "TERM": "xterm", **env},
-            start_new_session=True, preexec_fn=lambda: fcntl.ioctl(0, termios.TIOCSCTTY, 0),
+            start_new_session=True, preexec_fn=self._begin,
         )
         os.close(theirs)
         self.text, self.seen = b"", 0
+
+    @staticmethod
+    def _begin():
+        """In the new process: the terminal is its own, and Control-C ends it, also where these tests run in the background."""
+        fcntl.ioctl(0, termios.TIOCSCTTY, 0)
+        signal.signal(signal.SIGINT, signal.SIG_DFL)
 
     def _more(self, seconds):
         """Whether there is more; at the end of the program there is none."""
