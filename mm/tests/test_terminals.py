@@ -19,7 +19,7 @@ import unittest
 from mm.explore.progress import ANEW
 from mm.machine.program import find_program
 from mm.shown import OURS
-from mm.tests.support import folder, needs_log, needs_program, path_of, read, write
+from mm.tests.support import folder, needs_program, path_of, read, write
 
 MM = [sys.executable, path_of("bin", "mm")]
 COLOURS = re.compile(OURS.encode())
@@ -179,7 +179,7 @@ class Searches(unittest.TestCase):
         self.assertEqual((status, told[0] + COLOURS.sub(b"", told[-1])), piped(*MM, *words))
         self.assertNotIn(b"\r", at_terminal([sys.executable, "-c", HASTY, *words], TERM="dumb")[1])
 
-    @needs_log
+    @needs_program
     def test_cases_tell_how_far_they_are(self):
         words = ["--count", "3", find_program().path, "log", "{image}", "{cycles}", "{schedule}"]
         lines = at_terminal([sys.executable, "-c", HASTY_CASES, *words])[1].decode().splitlines()
