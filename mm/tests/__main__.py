@@ -44,12 +44,13 @@ def main(words: list[str]) -> int:
         return 0 if words == ["--help"] else 2
     began = time.monotonic()
     with ProcessPoolExecutor(jobs) as pool:
-        ends, reasons = [], []
+        ends: list[tuple[int, bool]] = []
+        reasons: list[str] = []
         for tests, why, said in pool.map(run, named):
             ends.append((tests, bool(said)))
             reasons += why
             print(said, end="", flush=True)
-    tests, failed = map(sum, zip(*ends))
+    tests, failed = sum(count for count, _ in ends), sum(is_wrong for _, is_wrong in ends)
     print("".join(f"left out: {reasons.count(reason)} tests: {reason}\n" for reason in sorted(set(reasons))), end="")
     print(f"Ran {tests} tests in {time.monotonic() - began:.0f}s, {len(reasons)} of them left out")
     print(f"FAILED: {failed} modules" if failed else "OK")
