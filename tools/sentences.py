@@ -29,6 +29,9 @@ KEEPS, FORMATS, MODEL = "docs/KEEPS.md", "docs/FORMATS.md", "docs/MODEL.md"
 # A page, a heading of it, and the definitions that the section describes, each a file below crates/.
 SECTIONS = [
     ("README.md", "## What is proved", "mm_top/specs/Headline.antt mm_laws/specs/Runs.antt"),
+    ("README.md", "## What it does not do", "mm_model/src/limits.rt mm_model/specs/Image.antt"),
+    ("docs/RELIABILITY.md", "## How input and output are handled", "mm_io/src/system.rt mmachine/src/main.rt"),
+    ("docs/RELIABILITY.md", "## What has to hold", "mmachine/specs/Exit.antt mm_load/specs/Lines.antt"),
     (THEOREMS, "## The headline", "mm_top/specs/Headline.antt mm_laws/specs/Runs.antt mm_laws/specs/Granted.antt"),
     (THEOREMS, "### The program", "mm_top/specs/Answers.antt mm_load/specs/Kinds.antt"),
     (PROVED, "## What is not proved", "mmachine/src/main.rt mm_io/src/system.rt"),

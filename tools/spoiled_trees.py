@@ -5,7 +5,9 @@ instead. The script has to notice, in a copy of this checkout with this one chan
 
 EDITS, COUNTS, OPERATIONS, NAMES = [".ci/edits"], [".ci/counts"], [".ci/operations"], [".ci/names"]
 CLAIMS, COMMENTS, HINTS, BROKEN = [".ci/claims"], [".ci/comments"], [".ci/hints"], ["tools/broken", "--applies"]
-CLAUSES = ["docs/clauses", "--check"]
+CLAUSES, BROWSER = ["docs/clauses", "--check"], [".ci/view", "--short"]
+# Those that the merge check does not try.
+LONG = (HINTS, BROWSER)
 
 TREES = [
     ("a wrong body does not apply", EDITS, "crates/mm_word/must-fail/restrict_ro_to_rw.edit", "Perm::Key,", "Perm::Kez,"),
@@ -52,5 +54,7 @@ TREES = [
     ("a function says nothing", COMMENTS, "crates/mmachine/src/main.rt", "/// The status of the process at an answer.\n", "\n"),
     ("a module takes what it does not use", HINTS, "mm/status.py", "from __future__ import annotations\n",
      "from __future__ import annotations\n\nimport fractions\n"),
+    ("a page never comes up", BROWSER, "mm/view/main.js", "  root.dataset.place = place;", "  root.dataset.place = = place;"),
+    ("a page hangs", BROWSER, "mm/view/main.js", "  root.dataset.place = place;", "  for (;;) root.dataset.place = place;"),
     ("a broken line does not apply", BROKEN, "mm/waves/vcd.py", 'yield "bytes", 17, len(data)', 'yield "bytes", 17, (len(data))'),
 ]

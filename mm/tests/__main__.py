@@ -2,8 +2,9 @@
 
 usage: python3 -m mm.tests [--jobs N] [MODULE..]
 
-All modules of this folder are run if none is named, such as `test_terminals`. What a module that fails says is shown; the
-last line but one is `Ran N tests ..`, and the exit status is 1 if a test failed."""
+All modules of this folder are run if none is named, such as `test_terminals`. What a module that fails says is shown, and
+for what reasons tests are left out; the last line but one is `Ran N tests ..`, and the exit status is 1 if a test failed. If $FIRST_WRONG is set, the first one that
+fails ends its module."""
 
 from __future__ import annotations
 
@@ -25,12 +26,12 @@ def modules() -> list[str]:
     return [os.path.basename(path)[: -len(".py")] for path in paths]
 
 
-def run(module: str) -> tuple[int, int, str]:
-    """How many tests of a module were run, how many of these were left out, and what it says if one failed."""
+def run(module: str) -> tuple[int, list[str], str]:
+    """How many tests of a module were run, why some of these were left out, and what it says if one failed."""
     said = io.StringIO()
     suite = unittest.defaultTestLoader.discover(HERE, f"{module}.py", TOP)
-    result = unittest.TextTestRunner(said, verbosity=0).run(suite)
-    return result.testsRun, len(result.skipped), "" if result.wasSuccessful() else f"{module}:\n{said.getvalue()}"
+    result = unittest.TextTestRunner(said, verbosity=0, failfast=bool(os.environ.get("FIRST_WRONG"))).run(suite)
+    return result.testsRun, [reason for _, reason in result.skipped], "" if result.wasSuccessful() else f"{module}:\n{said.getvalue()}"
 
 
 def main(words: list[str]) -> int:
@@ -43,12 +44,15 @@ def main(words: list[str]) -> int:
         return 0 if words == ["--help"] else 2
     began = time.monotonic()
     with ProcessPoolExecutor(jobs) as pool:
-        ends = []
-        for tests, skipped, said in pool.map(run, named):
-            ends.append((tests, skipped, bool(said)))
+        ends: list[tuple[int, bool]] = []
+        reasons: list[str] = []
+        for tests, why, said in pool.map(run, named):
+            ends.append((tests, bool(said)))
+            reasons += why
             print(said, end="", flush=True)
-    tests, skipped, failed = map(sum, zip(*ends))
-    print(f"Ran {tests} tests in {time.monotonic() - began:.0f}s, {skipped} of them left out")
+    tests, failed = sum(count for count, _ in ends), sum(is_wrong for _, is_wrong in ends)
+    print("".join(f"left out: {reasons.count(reason)} tests: {reason}\n" for reason in sorted(set(reasons))), end="")
+    print(f"Ran {tests} tests in {time.monotonic() - began:.0f}s, {len(reasons)} of them left out")
     print(f"FAILED: {failed} modules" if failed else "OK")
     return 1 if failed else 0
 

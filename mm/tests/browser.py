@@ -124,7 +124,17 @@ class Browser:
             self.complaints.append(told["entry"]["text"])
 
     def call(self, method: str, **params: Any) -> Any:
-        """The answer to a command of the protocol."""
+        """The answer to a command of the protocol. If a page gives none and the browser does, the page is at fault."""
+        try:
+            return self._call(method, params)
+        except NoAnswer:
+            if not self.session:
+                raise
+            self.session = ""
+            self._call("Browser.getVersion", {})
+            raise Failed(f"{method}: the page gives no answer in {SECONDS} seconds") from None
+
+    def _call(self, method: str, params: dict[str, Any]) -> Any:
         self.number += 1
         asked = {"id": self.number, "method": method, "params": params}
         if self.session:

@@ -99,13 +99,3 @@ def write(room: str, name: str, text: str) -> str:
     with open(path, "w", encoding="utf-8") as file:
         file.write(text)
     return path
-
-
-def has(command: str, *words: str) -> bool:
-    """Whether the program has a command, which is given an image and some words."""
-    return has_program() and not find_program().run([command, path_of("examples", "hello.img"), *words]).status
-
-
-needs_log = unittest.skipUnless(has("log", "0"), "there is no built mmachine that has `log`")
-needs_keeps = unittest.skipUnless(has("keeps", "1", "8/3"), "there is no built mmachine that has `keeps`")
-needs_why = unittest.skipUnless(has("why", "0", "0", "touch"), "there is no built mmachine that has `why`")

@@ -10,7 +10,7 @@ import unittest
 from mm.names.clines import CNotes
 from mm.names.ctypes import CTypes
 from mm.machine.program import CHECKOUT
-from mm.tests.support import folder, mm, needs_log, needs_program, path_of, read, write
+from mm.tests.support import folder, mm, needs_program, path_of, read, write
 from mm.tests.test_cc import MODULE, source
 from mm.tests.test_debugger import answers
 from mm.tests.test_view import data_of
@@ -199,7 +199,7 @@ class Debugged(unittest.TestCase):
         self.assertIn("#0  main  examples/c/worker.c:13:", said[7])
 
 
-@needs_log
+@needs_program
 class Viewed(unittest.TestCase):
     def test_lines_and_variables(self):
         ended = mm("view", "examples/c/overflow.asm")

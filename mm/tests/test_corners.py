@@ -17,7 +17,7 @@ from mm.machine.program import find_program
 from mm.machine.words import Cell, Permission, Pointer, Word
 from mm.names.symbols import Region, Symbols
 from mm.outputs.report import SlotState
-from mm.tests.support import folder, mm, needs_log, needs_program, read_bytes, write
+from mm.tests.support import folder, mm, needs_program, read_bytes, write
 from mm.tests.test_grade_lines import A, Room
 from mm.tests.test_hex import read_hex
 from mm.tests.test_waves import Reader
@@ -172,7 +172,7 @@ class Ends(unittest.TestCase):
             self.assertIn(place, out)
 
 
-@needs_log
+@needs_program
 class Grades(Room):
     def test_as_many_cycles_as_the_page_says(self):
         """A program is run for 100,000 cycles, if its exercise says no other number."""
@@ -210,7 +210,7 @@ class Arrays(unittest.TestCase):
             self.assertEqual(found[MACHINE], split << 32 | kind << 16 | frames)
 
 
-@needs_log
+@needs_program
 class Waves(unittest.TestCase):
     def test_faults_of_high_numbers(self):
         for code, fault in (("  divu r1, r1, r2", 9), ("  trap 5", 11), ("  map r1, r1", 8), ("  .int -1", 7)):

@@ -9,7 +9,7 @@ from mm.pictures import why
 from mm.pictures.why import arrows_of
 from mm.records import replace
 from mm.status import Status
-from mm.tests.support import mm, needs_why, path_of
+from mm.tests.support import mm, needs_program, path_of
 from mm.views.derivation import REASONS, DerivationView, answer
 from mm.views.style import Style
 from mm.why.ask import Asked
@@ -83,7 +83,7 @@ class Pictures(unittest.TestCase):
         self.assertIn("..", why.draw(read_lines(TEXT), Asked(1, 0x100108, "write"), built, "By what way").svg())
 
 
-@needs_why
+@needs_program
 class Asking(unittest.TestCase):
     def test_counter(self):
         ended = mm("why", "examples/counter.asm", "0", "count", "write")

@@ -11,12 +11,12 @@ from mm.grading.lines import FORMS, SETTINGS, TABLES, VALUE, VALUE_PUT
 from mm.grading.marks import CHECKS
 from mm.grading.sheet import read_sheet
 from mm.status import Stop
-from mm.tests.support import folder, mm, needs_log, read, write
+from mm.tests.support import folder, mm, needs_program, read, write
 
 HELLO = "examples/hello.asm"
 
 
-@needs_log
+@needs_program
 class Grade(unittest.TestCase):
     def test_another_program_is_not(self):
         for name, program, why in (

@@ -12,13 +12,13 @@ import unittest
 from unittest import mock
 
 from mm.grading import worker
-from mm.tests.support import folder, mm, needs_log, path_of, read, write
+from mm.tests.support import folder, mm, needs_program, path_of, read, write
 
 HALTS = ".segment a 3\n  halt\n.thread 0 0 none xu a\n"
 needs_clang = unittest.skipUnless(shutil.which("clang"), "there is no Clang")
 
 
-@needs_log
+@needs_program
 class Class(unittest.TestCase):
     def setUp(self):
         entered = folder()

@@ -12,7 +12,7 @@ from mm.grading.sheet import read_sheet
 from mm.machine.words import Pointer
 from mm.names.symbols import Symbols
 from mm.outputs.keeps import read_keeps
-from mm.tests.support import folder, mm, needs_keeps, needs_log, read, write
+from mm.tests.support import folder, mm, needs_program, read, write
 from mm.views.keptwords import KeptWords
 
 A = ".segment a 7\n{}\n.thread 0 0 none xu a\n{}"
@@ -98,7 +98,7 @@ class Room(unittest.TestCase):
         return "".join({"  yes": "y", "  no ": "n"}.get(line[:5], "") for line in out.splitlines())
 
 
-@needs_log
+@needs_program
 class Lines(Room):
     def test_each_is_met_and_is_not(self):
         for line, program, why in LINES:
@@ -124,7 +124,7 @@ class Lines(Room):
         self.assertEqual(self.marks("executes 1 wreg\nreloads 0 isptr", program.replace("r3, r3, 4", "r3, r3, 9")), "yy")
 
 
-@needs_log
+@needs_program
 class Drawn(Room):
     """A sheet that doubles a number: the result is that of its answer."""
 
@@ -212,7 +212,7 @@ class Drawn(Room):
         self.assertIn("`-1` is not a seed", self.grade("says 0", KEY, "--seed", "-1").err)
 
 
-@needs_log
+@needs_program
 class Given(Room):
     """A source that the exercise gives has no points for what it does."""
 
@@ -269,7 +269,7 @@ class Keeps(Room):
             self.assertIn(words, told(read_keeps(f"keeps no\nleak {line}\n").leaks, words_of))
         self.assertIn("; and 2 more leaks", told(read_keeps("keeps no\n" + "leak loose 3\n" * 5).leaks, words_of))
 
-    @needs_keeps
+    @needs_program
     def test_a_gate_that_keeps_and_one_that_does_not(self):
         counter = read("examples", "counter.asm")
         leaky = counter.replace("ldi r7, 0 ", "nop ; ")
@@ -287,7 +287,7 @@ class Keeps(Room):
                 out = self.grade(f"uses halt\n{line}\n", program).out
                 self.assertIn(f"  no   {line}\n       {why}" if why else f"  yes  {line}\n", out)
 
-    @needs_keeps
+    @needs_program
     def test_what_is_not_known_is_not_kept(self):
         counter = read("examples", "counter.asm")
         out = self.grade("uses halt\nkeeps gates count\n", counter.replace("none xu prod", "none xp prod")).out

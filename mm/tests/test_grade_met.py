@@ -8,7 +8,7 @@ from mm.grading.values import is_value
 from mm.machine.words import Permission, Pointer, Word
 from mm.outputs.audit import Audit, Reach
 from mm.outputs.exploration import Exploration, Outcome
-from mm.tests.support import needs_log
+from mm.tests.support import needs_program
 from mm.tests.test_grade_lines import A, FORGES, LOADS_RO, RW, Room
 
 HIGH = A.format("  st r1, r2, 0, any, keep\n  out r3\n  halt", RW) + ".reg 2 int 0x100000041\n.reg 3 int 65\n"
@@ -52,7 +52,7 @@ COUNTS = ".segment a 6\n  ldi r2, 90\nx: addi r2, r2, -1\n  addi r3, r3, 1\n  bn
 COUNTS += "".join(f".thread {slot} {slot} none xu a\n" for slot in range(4))
 
 
-@needs_log
+@needs_program
 class Met(Room):
     def test_each_is_met_and_is_not(self):
         for line, program, why in LINES:

@@ -6,7 +6,7 @@ import unittest
 
 from mm.grading.sheet import read_sheet
 from mm.machine.program import CHECKOUT
-from mm.tests.support import folder, mm, needs_keeps, needs_log, read, write
+from mm.tests.support import folder, mm, needs_program, read, write
 
 COURSE = os.path.join(CHECKOUT, "docs", "course")
 # Right answers that are not the official ones: other registers, names and ways. The name of each begins with its exercise.
@@ -22,8 +22,7 @@ TABLES = {"lab-3": "lab3-table", "lab-5": "lab5-table", "2.1": "fields-two", "6.
 WITHOUT_START = ("lab-3",)
 
 
-@needs_log
-@needs_keeps
+@needs_program
 class Sheets(unittest.TestCase):
     def test_each_sheet_is_passed_by_its_answer_and_by_no_fake(self):
         self.assertEqual(len(SHEETS), EXERCISES)

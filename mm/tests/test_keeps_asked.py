@@ -4,7 +4,7 @@ import json
 import os
 import unittest
 
-from mm.tests.support import folder, mm, needs_keeps, needs_program, read, write
+from mm.tests.support import folder, mm, needs_program, read, write
 
 
 @needs_program
@@ -37,7 +37,7 @@ class Audits(unittest.TestCase):
         self.assertEqual(named[-1], "  mm keeps examples/counter.img --names examples/counter.asm gate count")
 
 
-@needs_keeps
+@needs_program
 class Asked(unittest.TestCase):
     def test_yes(self):
         ended = mm("keeps", "examples/counter.asm", "count", "gate")

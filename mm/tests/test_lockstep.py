@@ -28,7 +28,7 @@ from mm.log.replay import Machine
 from mm.machine.isa import OPERATIONS, decode
 from mm.machine.program import find_program
 from mm.machine.words import ZERO, Cell
-from mm.tests.support import folder, needs_log, path_of, read, read_bytes, write
+from mm.tests.support import folder, needs_program, path_of, read, read_bytes, write
 from mm.tests.test_log import LOG, small_image
 
 # What the cases 0 to 49 of seed 1 are. It changes with the generator: then numbers that were written down mean others.
@@ -242,7 +242,7 @@ def lockstep(*words):
     return status, out.getvalue(), err.getvalue()
 
 
-@needs_log
+@needs_program
 class Command(unittest.TestCase):
     def spoiled(self, room, change):
         return self.script(room, SPOILED.format(program=find_program().path, change=change))
@@ -354,7 +354,7 @@ class Command(unittest.TestCase):
 class Folder(unittest.TestCase):
     """Cases written as files, with their texts for Verilog, and logs that came of them."""
 
-    @needs_log
+    @needs_program
     def test_logs_of_a_folder(self):
         with folder() as room:
             self.assertEqual(lockstep("--write", room, "--hex", "--count", "3")[0], 0)
@@ -373,7 +373,7 @@ class Folder(unittest.TestCase):
                 self.assertEqual((status, json.load(file)["differ"]), (1, 1), out)
 
 
-@needs_log
+@needs_program
 @unittest.skipUnless(shutil.which("iverilog"), "there is no iverilog")
 class Verilog(unittest.TestCase):
     """The toy core of docs/hardware."""

@@ -9,7 +9,7 @@ from mm.log.replay import Machine
 from mm.machine.program import find_program
 from mm.machine.words import Cell, Permission, Pointer, Word
 from mm.outputs.report import read_report
-from mm.tests.support import folder, needs_log, path_of, read_bytes, write
+from mm.tests.support import folder, needs_program, path_of, read_bytes, write
 from mm.formats.image import read_image
 
 CHANGES = """\
@@ -123,7 +123,7 @@ class Replayed(unittest.TestCase):
         self.assertEqual((list(machine.slots[1].queue), machine.cell(0x100000)), ([], Cell()))
         self.assertEqual(machine.report(8), report)
 
-    @needs_log
+    @needs_program
     def test_every_cycle_of_the_examples(self):
         program = find_program()
         for name, schedule in (

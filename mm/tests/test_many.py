@@ -12,7 +12,7 @@ from mm.machine.program import find_program
 from mm.machine.words import Cell, Permission, Pointer, Word
 from mm.names.symbols import Region, Symbols
 from mm.outputs.audit import Reach
-from mm.tests.support import folder, mm, needs_log, needs_program, read_bytes, write
+from mm.tests.support import folder, mm, needs_program, read_bytes, write
 from mm.tests.test_hex import read_hex
 from mm.tests.test_waves import Reader
 from mm.views.audit import NAMES_SHOWN, AuditView
@@ -180,7 +180,7 @@ class Audits(unittest.TestCase):
 
 
 class Waves(unittest.TestCase):
-    @needs_log
+    @needs_program
     def test_many_bytes(self):
         """300 bytes of one group, and 70 of another."""
         prints = PRINTS.format(first=1, count=300, each=0)
@@ -193,7 +193,7 @@ class Waves(unittest.TestCase):
             self.assertEqual(sorted(set(told)), list(range(count + 1)))
             self.assertEqual(told, sorted(told))
 
-    @needs_log
+    @needs_program
     def test_events_that_wait(self):
         """Three faults wait in the queue of their handler, which then takes one after another."""
         with folder() as room:

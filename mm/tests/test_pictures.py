@@ -16,7 +16,7 @@ from mm.pictures.svg import COLOURS, SHOWN, SMALLEST, WIDTH, Picture
 from mm.source.letters import TEXT_DIRECTIVES
 from mm.source.wants import DIRECTIVES
 from mm.status import Stop
-from mm.tests.support import needs_keeps, needs_program, needs_why, path_of, read
+from mm.tests.support import needs_program, path_of, read
 from mm.tests.test_keeps import GROUPS, NO, YES, counter
 from mm.tests.test_view import DEUTAN, PLAIN, PROTAN, contrast, distance
 
@@ -143,12 +143,12 @@ class Drawn(unittest.TestCase):
             for word in words:
                 self.assertIn(word, shown)
 
-    @needs_keeps
+    @needs_program
     def test_what_the_counter_keeps(self):
         text = self.look(drawn(["keeps", path_of("examples", "counter.asm"), "gate", "count"], ""))
         self.assertIn("What the kernel of counter keeps", text)
 
-    @needs_why
+    @needs_program
     def test_why(self):
         text = self.look(drawn(["why", path_of("examples", "counter.asm"), "0", "count", "write"], ""))
         for said in ("Why group 0 can write count", "3  xu 2^6 door", "4, stored at box by 1, loaded by 5"):

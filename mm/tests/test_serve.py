@@ -22,7 +22,7 @@ from mm.serve.words import for_page
 from mm.table import BY_NAME
 from mm.tests.hostile import INCLUDES, OK
 from mm.tests.serving import Served, program
-from mm.tests.support import folder, mm, needs_log, read
+from mm.tests.support import folder, mm, needs_program, read
 
 HOST = "Host: 127.0.0.1:0\r\n"
 
@@ -223,7 +223,7 @@ class ForPage(unittest.TestCase):
         self.assertEqual(for_page([long, "mm: note: it is late", "3 cycles"]), ["a run has at most 1000000 cycles", "it is late",
             "3 cycles"])
 
-    @needs_log
+    @needs_program
     def test_turns_that_do_nothing_and_orders_that_end(self):
         with Served() as served:
             files = program(read("examples", "counter.asm"), "counter.asm")
@@ -289,7 +289,7 @@ class Letters(unittest.TestCase):
         self.assertEqual(span("  outt r1", 3), (2, 6))
 
 
-@needs_log
+@needs_program
 class Whole(unittest.TestCase):
     def test_a_run(self):
         with Served() as served:

@@ -8,10 +8,10 @@ from mm.lockstep.tally import Tally
 from mm.log.read import LogReader
 from mm.log.replay import Machine
 from mm.machine.program import find_program
-from mm.tests.support import folder, mm, needs_log, write
+from mm.tests.support import folder, mm, needs_program, write
 
 
-@needs_log
+@needs_program
 class Ways(unittest.TestCase):
     def test_ways_in_the_tally(self):
         """A branch that is taken, two that are not, and the end of a segment."""

@@ -8,6 +8,7 @@ import os
 import pty
 import re
 import select
+import signal
 import struct
 import subprocess
 import sys
@@ -18,7 +19,7 @@ import unittest
 from mm.explore.progress import ANEW
 from mm.machine.program import find_program
 from mm.shown import OURS
-from mm.tests.support import folder, needs_log, needs_program, path_of, read, write
+from mm.tests.support import folder, needs_program, path_of, read, write
 
 MM = [sys.executable, path_of("bin", "mm")]
 COLOURS = re.compile(OURS.encode())
@@ -47,10 +48,16 @@ class Terminal:
         kept = {name: value for name, value in os.environ.items() if name not in ("COLUMNS", "NO_COLOR")}
         self.running = subprocess.Popen(
             words, stdin=theirs, stdout=theirs, stderr=theirs, cwd=path_of(), env={**kept, "TERM": "xterm", **env},
-            start_new_session=True, preexec_fn=lambda: fcntl.ioctl(0, termios.TIOCSCTTY, 0),
+            start_new_session=True, preexec_fn=self._begin,
         )
         os.close(theirs)
         self.text, self.seen = b"", 0
+
+    @staticmethod
+    def _begin():
+        """In the new process: the terminal is its own, and Control-C ends it, also where these tests run in the background."""
+        fcntl.ioctl(0, termios.TIOCSCTTY, 0)
+        signal.signal(signal.SIGINT, signal.SIG_DFL)
 
     def _more(self, seconds):
         """Whether there is more; at the end of the program there is none."""
@@ -67,8 +74,10 @@ class Terminal:
 
     def until(self, wanted):
         """Waits for a text after what was waited for before."""
+        began = time.monotonic()
         while (at := self.text.find(wanted, self.seen)) < 0:
-            if not self._more(MOST_SECONDS):
+            if not self._more(MOST_SECONDS) or time.monotonic() - began > 3 * MOST_SECONDS:
+                self.running.kill()
                 raise AssertionError(f"no {wanted!r} in {self.text[self.seen:]!r}")
         self.seen = at + len(wanted)
 
@@ -170,7 +179,7 @@ class Searches(unittest.TestCase):
         self.assertEqual((status, told[0] + COLOURS.sub(b"", told[-1])), piped(*MM, *words))
         self.assertNotIn(b"\r", at_terminal([sys.executable, "-c", HASTY, *words], TERM="dumb")[1])
 
-    @needs_log
+    @needs_program
     def test_cases_tell_how_far_they_are(self):
         words = ["--count", "3", find_program().path, "log", "{image}", "{cycles}", "{schedule}"]
         lines = at_terminal([sys.executable, "-c", HASTY_CASES, *words])[1].decode().splitlines()
@@ -226,7 +235,7 @@ class Typing(unittest.TestCase):
     def test_control_c_ends_a_run(self):
         with folder() as room:
             terminal = Terminal([*MM, "explore", "--states", "50000000", write(room, "endless.asm", ENDLESS)])
-            terminal.until(b"looking, 1 s")
+            terminal.until(b"looking, ")  # on a busy computer later than after one second
             terminal.type(CONTROL_C)
             self.assertEqual(terminal.end()[0], 130)
             self.assertEqual(os.listdir(room), ["endless.asm"])

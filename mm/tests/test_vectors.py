@@ -4,10 +4,10 @@ import unittest
 
 from mm.lockstep.vectors import units, vectors
 from mm.machine.program import find_program
-from mm.tests.support import needs_log
+from mm.tests.support import needs_program
 
 
-@needs_log
+@needs_program
 class Vectors(unittest.TestCase):
     def test_lea(self):
         found = list(vectors(find_program(), "lea", 200))

@@ -13,7 +13,7 @@ from mm.outputs.report import Report, SlotState
 from mm.machine.words import Word
 from mm.tests.pages import pages
 from mm.tests.spoils import SPOILED, spoiled_pages
-from mm.tests.support import folder, mm, needs_log, path_of, read, write
+from mm.tests.support import folder, mm, needs_program, path_of, read, write
 from mm.tests.test_log import CHANGES, LOG, small_image
 from mm.log.changes import read_change
 from mm.view.data import change_form, machine_form, step_form
@@ -198,7 +198,7 @@ class Spoiled(unittest.TestCase):
                 self.assertNotEqual(spoiled, page, said)
 
 
-@needs_log
+@needs_program
 class Command(unittest.TestCase):
     def test_counter(self):
         ended = mm("view", "examples/counter.asm", "--audit")

@@ -10,7 +10,7 @@ from mm.machine.program import find_program
 from mm.machine.words import Word
 from mm.outputs.report import read_report
 from mm.tests.pages import prepared
-from mm.tests.support import folder, mm, needs_log, path_of
+from mm.tests.support import folder, mm, needs_program, path_of
 from mm.tests.test_log import LOG, small_image
 from mm.waves.vcd import STATES, Dump, dump, short_name
 
@@ -116,7 +116,7 @@ class Waves(unittest.TestCase):
         after = list(Reader(list(dump(Machine(small_image()), iter(steps), 50, "a test"))).moments)
         self.assertEqual([time for time, _ in after], [49, 50])
 
-    @needs_log
+    @needs_program
     def test_reports(self):
         """What a dump says at the end of a cycle is what `run` reports of as many cycles."""
         for words in REPORTED:
@@ -135,7 +135,7 @@ class Waves(unittest.TestCase):
             wanted = values_reported(report)
             self.assertEqual({name: values.get(name) for name in wanted}, wanted, f"{words[0]}, cycle {cycle}")
 
-    @needs_log
+    @needs_program
     def test_command(self):
         ended = mm("vcd", "examples/counter.asm", "--from", "10")
         moments = list(Reader(ended.out.splitlines()).moments)
