@@ -159,16 +159,16 @@ def slow_senders(served: Served, count: int) -> list[str]:
 
 
 def at_once(served: Served, forms_: list[Any]) -> list[tuple[float, Got]]:
-    """The answers to requests that are made all at once, each with its seconds."""
-    found: list[tuple[float, Got]] = []
+    """The answers to requests that are made all at once, in their order, each with its seconds."""
+    found: list[tuple[float, Got]] = [(0.0, Got(0))] * len(forms_)
 
-    def one(form: Any) -> None:
+    def one(at: int, form: Any) -> None:
         body = json.dumps(form).encode()
         begin = time.monotonic()
         got = served.do(body)
-        found.append((time.monotonic() - begin, got))
+        found[at] = (time.monotonic() - begin, got)
 
-    threads = [threading.Thread(target=one, args=(form,)) for form in forms_]
+    threads = [threading.Thread(target=one, args=row) for row in enumerate(forms_)]
     for thread in threads:
         thread.start()
     for thread in threads:
