@@ -250,7 +250,7 @@ def check_extension(expect, about, expressions, mm):
         json.dump(given, file)
         file.flush()
         words = ["node", "-e", NODE, file.name]
-        ended = subprocess.run(words, capture_output=True, text=True, check=False, timeout=60)
+        ended = subprocess.run(words, capture_output=True, text=True, check=False, timeout=300)
     expect("vscode: node", (ended.returncode, ended.stderr), (0, ""))
     if ended.returncode:
         return
