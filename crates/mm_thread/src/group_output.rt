@@ -62,4 +62,10 @@ impl GroupOutput {
         self.bytes.clear();
         self.bytes.extend_from_slice(bytes).unwrap();
     }
+
+    /// Appends bytes to the first ones of the output.
+    pub(crate) fn extend(&mut self, kept: usize, bytes: &[u8]) {
+        self.bytes.truncate(kept);
+        self.bytes.extend_from_slice(bytes).unwrap();
+    }
 }

@@ -23,7 +23,7 @@ ghost use Rattle.mm_thread.specs.StepAccesses.{accesses_in, accesses_shown};
 use crate::build::{no_outputs, rows_of};
 use crate::item::take_item;
 use crate::output::Output;
-use crate::restore::{put_events, put_outputs, put_slots};
+use crate::restore::{Revision, put_events, put_outputs, put_slots};
 use crate::tables::Tables;
 use mm_mem::Memory;
 use mm_model::{Event, Slot, Step, Tick};
@@ -125,6 +125,24 @@ impl Core {
         put_outputs(&mut self.tables, outputs);
     }
 
+    /// Puts other slots, queues and outputs in place of some.
+    pub fn revise(&mut self, revision: &Revision) {
+        for (at, slot) in revision.slots.as_slice() {
+            self.tables.put_slot(*at, slot);
+        }
+        for (at, events) in revision.queues.as_slice() {
+            self.tables.put_queue(*at, events);
+        }
+        for (group, kept, bytes) in revision.outputs.as_slice() {
+            self.tables.extend_output(*group, *kept, bytes);
+        }
+    }
+
+    /// Makes the count of turns of the slot at an index 0.
+    pub fn uncount(&mut self, at: usize) {
+        self.tables.uncount(at);
+    }
+
     /// Makes the core that of a split machine, or of one that is not split. No load may be pending.
     pub fn set_split(&mut self, on: bool)
         requires { AllByRecursion (λ (s : SlotValue). s.pending ≡ []) (slots_of self.old) }
@@ -151,6 +169,11 @@ impl Core {
             Some(slot_index) => Some(self.tables.slot(slot_index)),
             None => None,
         }
+    }
+
+    /// The index of the slot of a number, if there is one.
+    pub fn place(&self, n: u8) -> Option<usize> {
+        self.tables.find_slot(u64::from(n))
     }
 
     /// The set of running slots: bit n is set exactly if slot n runs.

@@ -377,4 +377,32 @@ impl Tables {
         let output = &mut self.outputs[group as usize];
         output.assign(bytes);
     }
+
+    /// Puts another slot of the same number at an index. The queue stays.
+    pub(crate) fn put_slot(&mut self, at: usize, slot: &Slot) {
+        let row = &mut self.rows[at];
+        row.slot = slot.copy();
+        self.runners = noted(self.runners, &row.slot);
+    }
+
+    /// Makes these events the queue at an index.
+    pub(crate) fn put_queue(&mut self, at: usize, events: &[Event]) {
+        let row = &mut self.rows[at];
+        row.queue.clear();
+        for event in events {
+            row.queue.push(*event);
+        }
+    }
+
+    /// Appends bytes to the first ones of a group's output.
+    pub(crate) fn extend_output(&mut self, group: u8, kept: usize, bytes: &[u8]) {
+        let output = &mut self.outputs[group as usize];
+        output.extend(kept, bytes);
+    }
+
+    /// Makes the count of turns of a slot 0.
+    pub(crate) fn uncount(&mut self, at: usize) {
+        let row = &mut self.rows[at];
+        row.slot.turns = 0;
+    }
 }

@@ -1,0 +1,40 @@
+//! Pairs of names, each kept once.
+
+use indexmap::IndexSet;
+use std::alloc::{AllocError, Global};
+
+/// Pairs of names. The name 0 is that of the pair of 0 and 0, which is not kept. The name of any other pair is one more
+/// than its index.
+#[derive(Drop)]
+pub struct Pairs {
+    pairs: IndexSet<(u32, u32)>,
+}
+
+impl Pairs {
+    /// No pairs.
+    pub fn new(alloc: Global) -> Pairs {
+        Pairs {
+            pairs: IndexSet::new(alloc),
+        }
+    }
+
+    /// The name of a pair, which is kept if it is new.
+    pub fn join(&mut self, left: u32, right: u32) -> Result<u32, AllocError> {
+        if left == 0 && right == 0 {
+            return Ok(0);
+        }
+        if self.pairs.len() >= u32::MAX as usize {
+            return Err(AllocError);
+        }
+        let (at, _) = self.pairs.insert_full((left, right))?;
+        Ok(at as u32 + 1)
+    }
+
+    /// The pair of a name.
+    pub fn parts(&self, name: u32) -> (u32, u32) {
+        if name == 0 {
+            return (0, 0);
+        }
+        self.pairs.as_slice()[name as usize - 1]
+    }
+}
