@@ -430,7 +430,7 @@ impl Configs {
             .pairs
             .leaf(self.now.outputs, GROUPS, u64::from(group));
         let last = u32::from(output[output.len() - 1]);
-        let name = self.store.pairs.join(was, last + 1)?;
+        let name = self.store.outputs.join(was, last + 1)?;
         self.now.outputs =
             self.store
                 .pairs
@@ -474,10 +474,10 @@ fn changed_output(
     let mut wanted = wanted;
     while was != wanted {
         if was > wanted {
-            was = store.pairs.parts(was).0;
+            was = store.outputs.parts(was).0;
             kept -= 1;
         } else {
-            let (before, byte) = store.pairs.parts(wanted);
+            let (before, byte) = store.outputs.parts(wanted);
             wanted = before;
             bytes.push((byte - 1) as u8)?;
         }

@@ -10,7 +10,7 @@ use std::alloc::AllocError;
 // 1. States.
 
 /// The number of a state.
-pub(crate) fn state_number(state: SlotState) -> u64
+pub fn state_number(state: SlotState) -> u64
 {
     match state {
         SlotState::Running => 0,

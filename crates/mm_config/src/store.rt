@@ -9,6 +9,9 @@ use std::alloc::{AllocError, Global};
 #[derive(Drop)]
 pub(crate) struct Store {
     pub(crate) pairs: Pairs,
+    /// Outputs: pairs of a shorter output and one more than its next byte. An output has a greater name than a shorter one
+    /// that it begins with.
+    pub(crate) outputs: Pairs,
     /// The numbers of slots and of queues.
     numbers: IndexSet<Vec<u64>>,
     /// Cells other than [`Cell::ZERO`]: the bits of the word, and whether it is a pointer and the cell is full.
@@ -22,6 +25,7 @@ impl Store {
     pub(crate) fn new(alloc: Global) -> Store {
         Store {
             pairs: Pairs::new(alloc),
+            outputs: Pairs::new(alloc),
             numbers: IndexSet::new(alloc),
             cells: IndexSet::new(alloc),
             pages: IndexSet::new(alloc),
