@@ -47,6 +47,7 @@ pub struct Configs {
     /// The depth of the trees of slots and of queues.
     depth: u32,
     // Room for what a call needs.
+    slots: Vec<Slot>,
     revision: Revision,
     changed: Vec<(u64, u32)>,
     changed_cells: Vec<(u64, u32)>,
@@ -103,6 +104,7 @@ impl Configs {
             kept: IndexSet::new(alloc),
             limit,
             depth: depth_for(img.slots().len()),
+            slots: Slot::copies(alloc, img.slots())?,
             revision: Revision::new(alloc),
             changed: Vec::new(alloc),
             changed_cells: Vec::new(alloc),
@@ -176,14 +178,14 @@ impl Configs {
         } else {
             Names::of(&self.store.pairs, slots, rest)
         };
-        self.list_slots(img, wanted.slots)?;
+        let changed = self.read_slots(img, wanted.slots)?;
         if wanted.queues != self.now.queues {
             self.list_queues(alloc, wanted.queues)?;
         }
         if wanted.outputs != self.now.outputs {
             self.list_outputs(alloc, wanted.outputs)?;
         }
-        self.core.revise(&self.revision);
+        self.core.revise(changed, &self.slots, &self.revision);
         self.revision.clear();
         if wanted.pages != self.now.pages || wanted.height != self.now.height {
             self.put_pages(&wanted)?;
@@ -193,8 +195,9 @@ impl Configs {
         Ok(())
     }
 
-    /// Lists the slots that change.
-    fn list_slots(&mut self, img: &Image, wanted: u32) -> Result<(), AllocError> {
+    /// Reads the slots that change, and says which they are, the first in the lowest bit.
+    fn read_slots(&mut self, img: &Image, wanted: u32) -> Result<u64, AllocError> {
+        let mut changed = 0;
         self.changed.clear();
         self.store.pairs.list_changed(
             self.now.slots,
@@ -205,10 +208,14 @@ impl Configs {
         )?;
         for (at, name) in self.changed.as_slice() {
             let mut reader = Reader::new(self.store.numbers(*name));
-            let slot = take_slot(&mut reader, &img.slots()[*at as usize]);
-            self.revision.slots.push((*at as usize, slot))?;
+            take_slot(
+                &mut reader,
+                &img.slots()[*at as usize],
+                &mut self.slots[*at as usize],
+            );
+            changed |= 1 << *at;
         }
-        Ok(())
+        Ok(changed)
     }
 
     /// Lists the queues that change.

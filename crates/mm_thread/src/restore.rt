@@ -16,11 +16,9 @@ use crate::tables::Tables;
 use mm_model::{Event, Slot};
 use std::alloc::Global;
 
-/// Slots, queues and outputs that are to take the place of others.
+/// Queues and outputs that are to take the place of others.
 #[derive(Drop)]
 pub struct Revision {
-    /// Each slot with its index.
-    pub slots: Vec<(usize, Slot)>,
     /// The events of each queue with the index of its slot.
     pub queues: Vec<(usize, Vec<Event>)>,
     /// Each group with the count of bytes of its output that stay, and with those after them.
@@ -31,7 +29,6 @@ impl Revision {
     /// Nothing.
     pub fn new(alloc: Global) -> Revision {
         Revision {
-            slots: Vec::new(alloc),
             queues: Vec::new(alloc),
             outputs: Vec::new(alloc),
         }
@@ -39,7 +36,6 @@ impl Revision {
 
     /// Makes it nothing.
     pub fn clear(&mut self) {
-        self.slots.clear();
         self.queues.clear();
         self.outputs.clear();
     }

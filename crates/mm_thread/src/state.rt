@@ -125,10 +125,13 @@ impl Core {
         put_outputs(&mut self.tables, outputs);
     }
 
-    /// Puts other slots, queues and outputs in place of some.
-    pub fn revise(&mut self, revision: &Revision) {
-        for (at, slot) in revision.slots.as_slice() {
-            self.tables.put_slot(*at, slot);
+    /// Puts other slots, queues and outputs in place of some. The slots are those at the indices that are set in a mask, the
+    /// first in the lowest bit.
+    pub fn revise(&mut self, changed: u64, slots: &[Slot], revision: &Revision) {
+        for at in 0..slots.len() {
+            if changed >> at & 1 == 1 {
+                self.tables.put_slot(at, &slots[at]);
+            }
         }
         for (at, events) in revision.queues.as_slice() {
             self.tables.put_queue(*at, events);

@@ -381,7 +381,7 @@ impl Tables {
     /// Puts another slot of the same number at an index. The queue stays.
     pub(crate) fn put_slot(&mut self, at: usize, slot: &Slot) {
         let row = &mut self.rows[at];
-        row.slot = slot.copy();
+        row.slot.assign(slot);
         self.runners = noted(self.runners, &row.slot);
     }
 
