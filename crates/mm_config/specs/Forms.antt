@@ -1,21 +1,17 @@
--- Slots and queues as numbers.
-use Rattle.std.specs.Prelude.{ℕ, zero, suc, ◌+◌, ◌*◌, ◌-◌, ◌/◌, ◌%◌, Bool, true, false, not, ◌&&◌, ◌==◌, nat_eq, nat_lt}
+-- Slots and queues as numbers: the forms in which they are kept.
+use Rattle.std.specs.Prelude.{ℕ, zero, suc, ◌+◌, ◌*◌, ◌-◌, ◌/◌, ◌%◌, Bool, true, false, not, ◌&&◌, ◌==◌, nat_lt}
 use Rattle.std.specs.Prelude.{if◌then◌else◌, List, [], ◌∷◌, ◌++◌, map, length, unwrap_or, Option, Some, None}
-use Rattle.std.specs.List.{flat_map, list_any}
-use lib.Pointwise.{pointwise}
+use Rattle.std.specs.List.{flat_map}
 use Rattle.mm_word.specs.declared.{cause.Cause.TheVariants.NotPointer, perm.Perm.TheVariants.Key}
-use Rattle.mm_word.specs.{declared.word.{Word.{Word, TheVariants.{Int, Ptr}}, Cell.Cell}, Cause.{number_of, cause_of}}
+use Rattle.mm_word.specs.{declared.word.Word.{Word, TheVariants.{Int, Ptr}}, Cause.{number_of, cause_of}}
 use Rattle.mm_word.specs.{Perm.can_fetch, Pointer.{Pointer, pointer_of, bits_of, spells_pointer}}
 use Rattle.mm_word.specs.Word.{word_bits, is_pointer}
 use Rattle.mm_model.specs.declared.slot.SlotState.{SlotState, TheVariants.{Running, Waiting, Taken, Halted}}
-use Rattle.mm_model.specs.{declared.{slot.Pending.Pending, event.Event.Event}, Effect.same_word, Fits.slots_of}
-use Rattle.mm_model.specs.{Flags.{one_if, flags, number_of_flags}, Image.{Image, start}}
-use Rattle.mm_model.specs.{Report.{same_bit, groups_of, changes}, Slot.Slot, State.{Core, State, output_of}}
-use Rattle.mm_thread.specs.Output.{Output}
-use Rattle.mm_machine.specs.Snapshot.{queued, page_numbers}
-use Rattle.mm_config.specs.{Configurations.{uncounted_slot, are_some}, Outcomes.{state_number, same_state}}
+use Rattle.mm_model.specs.{declared.{slot.Pending.Pending, event.Event.Event}, Effect.same_word}
+use Rattle.mm_model.specs.{Flags.{one_if, flags, number_of_flags}, Slot.Slot}
+use Rattle.mm_config.specs.StateNumbers.{state_number}
 
--- 2. Numbers in a row, and two numbers in one.
+-- 1. Numbers in a row, and two numbers in one.
 
 -- the first number; 0 if there is none
 abbrev pub first_number : List ℕ → ℕ
@@ -30,7 +26,7 @@ behind (n ∷ ns) = ns
 abbrev pub packed : (n low high : ℕ) → ℕ
 packed n low high = low + n * high
 
--- 3. Words.
+-- 2. Words.
 
 -- the word of these bits: a pointer if they are tagged and spell one
 abbrev pub word_of : Bool → ℕ → Word
@@ -42,7 +38,7 @@ word_form w = one_if (is_pointer w) ∷ word_bits w ∷ []
 abbrev pub word_from : List ℕ → Word × List ℕ
 word_from ns = (word_of (first_number ns == 1) (first_number (behind ns)), behind (behind ns))
 
--- 4. A slot.
+-- 3. A slot.
 
 -- a flag for each word: whether it differs from that of the base
 abbrev pub changed_flags : List Word → List Word → List Bool
@@ -93,10 +89,15 @@ abbrev pub slot_head : Slot → ℕ
 slot_head s =
     packed 32 (state_number s.state) (packed 2 (one_if s.past) (packed 32 (length s.pending) (number_of_flags s.empty)))
 
--- the registers that differ, and those that hold pointers
+-- a flag for each word: whether it differs from that of the base, and is a pointer
+abbrev pub tagged_flags : List Word → List Word → List Bool
+tagged_flags (b ∷ base) (w ∷ words) = (not (same_word b w) && is_pointer w) ∷ tagged_flags base words
+tagged_flags _ _ = []
+
+-- the registers that differ, and those of them that hold pointers
 abbrev pub slot_masks : Slot → Slot → ℕ
 slot_masks base s =
-    packed 65536 (number_of_flags (changed_flags base.regs s.regs)) (number_of_flags (map is_pointer s.regs))
+    packed 65536 (number_of_flags (changed_flags base.regs s.regs)) (number_of_flags (tagged_flags base.regs s.regs))
 
 unfoldable pub slot_form : Slot → Slot → List ℕ
 slot_form base s =
@@ -121,44 +122,29 @@ slot_from base ns =
       loads.1,
     )
 
--- 6. Events.
+-- 4. A queue.
 
-abbrev pub event_form : ℕ × Event → List ℕ
-event_form x =
-    x.0 ∷ x.1.slot ∷ number_of x.1.cause ∷ bits_of x.1.ip ∷ word_form x.1.addr_op ++ word_form x.1.value_op
+abbrev pub event_form : Event → List ℕ
+event_form e = e.slot ∷ number_of e.cause ∷ bits_of e.ip ∷ word_form e.addr_op ++ word_form e.value_op
 
 -- the pointer of these bits; a key if they spell none
 abbrev pub pointer_or_key : ℕ → Pointer
 pointer_or_key bits = if spells_pointer bits then pointer_of bits else record { perm = Key; log = 0; addr = 0 }
 
--- the event, given its operands and the numbers before them
-abbrev pub event_with : List ℕ → Word × List ℕ → Word × List ℕ → (ℕ × Event) × List ℕ
-event_with ns addr value = (
-  (
-    first_number ns % 256,
-    record {
-      slot = first_number (behind ns) % 256;
-      cause = unwrap_or (cause_of (first_number (behind (behind ns)))) NotPointer;
-      ip = pointer_or_key (first_number (behind (behind (behind ns))));
-      addr_op = addr.0;
-      value_op = value.0;
-    },
-  ),
-  value.1,
-)
+-- the event of seven numbers
+abbrev pub event_of : (slot cause ip addr_tag addr value_tag value : ℕ) → Event
+event_of slot cause ip addr_tag addr value_tag value = record {
+  slot = slot % 256;
+  cause = unwrap_or (cause_of cause) NotPointer;
+  ip = pointer_or_key ip;
+  addr_op = word_of (addr_tag == 1) addr;
+  value_op = word_of (value_tag == 1) value;
+}
 
-unfoldable pub event_from : List ℕ → (ℕ × Event) × List ℕ
-event_from ns =
-    let addr = word_from (behind (behind (behind (behind ns)))) in event_with ns addr (word_from addr.1)
+unfoldable pub queue_form : List Event → List ℕ
+queue_form events = flat_map event_form events
 
-abbrev pub events_by : ℕ → List ℕ → List (ℕ × Event) × List ℕ
-events_by zero ns = ([], ns)
-events_by (suc count) ns =
-    let one = event_from ns in let later = events_by count one.1 in (one.0 ∷ later.0, later.1)
-
-unfoldable pub events_form : List (ℕ × Event) → List ℕ
-events_form events = length events ∷ flat_map event_form events
-
-unfoldable pub events_from : List ℕ → List (ℕ × Event) × List ℕ
-events_from ns = events_by (first_number ns) (behind ns)
-
+abbrev pub queue_from : List ℕ → List Event
+queue_from (slot ∷ cause ∷ ip ∷ addr_tag ∷ addr ∷ value_tag ∷ value ∷ ns) =
+    event_of slot cause ip addr_tag addr value_tag value ∷ queue_from ns
+queue_from _ = []

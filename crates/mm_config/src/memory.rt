@@ -2,7 +2,6 @@
 
 use crate::names::Names;
 use crate::store::Store;
-use mm_image::Image;
 use mm_mem::{Inspect, Memory, PlainMem};
 use mm_model::{CELLS, Page};
 use mm_word::Cell;
@@ -75,23 +74,34 @@ pub(crate) fn note_pages(
     Ok(())
 }
 
-/// Notes that a page was mapped.
-pub(crate) fn note_mapped(
+/// Notes the page that was mapped or unmapped, given the pages that were mapped before, which are brought up to date.
+pub(crate) fn note_page(
     store: &mut Store,
     names: &mut Names,
-    number: u64,
+    mapped: &mut Vec<u64>,
+    mem: &PlainMem,
 ) -> Result<(), AllocError> {
-    let name = store.pairs.join(1, 0)?;
-    put_page(store, names, number, name)
+    let at = first_other(mapped, mem);
+    if mem.pages() as usize > mapped.len() {
+        let number = mem.page_at(at as u32);
+        mapped.insert(at, number)?;
+        let page = store.pairs.join(1, 0)?;
+        put_page(store, names, number, page)
+    } else {
+        let number = mapped.remove(at);
+        put_page(store, names, number, 0)
+    }
 }
 
-/// Notes that a page was unmapped.
-pub(crate) fn note_unmapped(
-    store: &mut Store,
-    names: &mut Names,
-    number: u64,
-) -> Result<(), AllocError> {
-    put_page(store, names, number, 0)
+/// The index of the first page that is not the one of these numbers.
+fn first_other(mapped: &[u64], mem: &PlainMem) -> usize {
+    let count = mem.pages() as usize;
+    for at in 0..count {
+        if at >= mapped.len() || mem.page_at(at as u32) != mapped[at] {
+            return at;
+        }
+    }
+    count
 }
 
 /// Notes the cell of a word.
@@ -111,4 +121,25 @@ pub(crate) fn note_cell(
     let cells = store.pairs.with_leaf(cells, DEPTH, word % 4096 / 8, name)?;
     let page = store.pairs.join(1, cells)?;
     put_page(store, names, number, page)
+}
+
+/// Trees of pages of the same depth: those of the machine, and those that are wanted.
+pub(crate) fn same_height(
+    store: &mut Store,
+    now: &Names,
+    wanted: &Names,
+) -> Result<(u32, u32, u32), AllocError> {
+    let height = now.height.max(wanted.height);
+    let was = raised(store, now.pages, now.height, height)?;
+    let pages = raised(store, wanted.pages, wanted.height, height)?;
+    Ok((was, pages, height))
+}
+
+/// A tree made deeper, with nothing in its new places.
+fn raised(store: &mut Store, tree: u32, depth: u32, wanted: u32) -> Result<u32, AllocError> {
+    let mut tree = tree;
+    for _k in depth..wanted {
+        tree = store.pairs.join(tree, 0)?;
+    }
+    Ok(tree)
 }

@@ -13,11 +13,11 @@ pub(crate) struct Store {
     /// that it begins with.
     pub(crate) outputs: Pairs,
     /// The numbers of slots and of queues.
-    numbers: IndexSet<Vec<u64>>,
+    pub(crate) numbers: IndexSet<Vec<u64>>,
     /// Cells other than [`Cell::ZERO`]: the bits of the word, and whether it is a pointer and the cell is full.
-    cells: IndexSet<(u64, u8)>,
+    pub(crate) cells: IndexSet<(u64, u8)>,
     /// The numbers of the pages that were ever mapped.
-    pages: IndexSet<u64>,
+    pub(crate) pages: IndexSet<u64>,
 }
 
 impl Store {
@@ -32,12 +32,15 @@ impl Store {
         }
     }
 
-    /// The name of a list of numbers.
+    /// The name of a list of numbers. That of no numbers is 0.
     pub(crate) fn name_numbers(
         &mut self,
         alloc: Global,
         numbers: &[u64],
     ) -> Result<u32, AllocError> {
+        if numbers.is_empty() {
+            return Ok(0);
+        }
         if let Some(at) = self.numbers.get_index_of(numbers) {
             return Ok(at as u32 + 1);
         }
@@ -51,6 +54,9 @@ impl Store {
 
     /// The numbers of a name.
     pub(crate) fn numbers(&self, name: u32) -> &[u64] {
+        if name == 0 {
+            return &[];
+        }
         self.numbers.as_slice()[name as usize - 1].as_slice()
     }
 

@@ -47,7 +47,7 @@ impl Search {
     fn note_sets(&mut self, alloc: Global, img: &Image, busy: &BusySlots) -> Result<(), AllocError>
     {
         for (at, slots) in busy.iter() {
-            self.configs.put(alloc, img, *at as usize)?;
+            self.configs.put(*at as usize)?;
             let end = End {
                 at: *at,
                 ending: Ending::Endless,

@@ -46,7 +46,7 @@ fn outcome(
     tally: Tally,
 ) -> Result<OutcomeFound, AllocError> {
     let End { at, ending, busy } = tally.first;
-    configs.put(alloc, img, at as usize)?;
+    configs.put(at as usize)?;
     let mut slots = Vec::new(alloc);
     put_slots(&mut slots, configs.core(), busy)?;
     let mut outputs = Vec::new(alloc);

@@ -140,7 +140,7 @@ impl Search {
 
     /// Makes each move from a configuration, and notes the configuration if it is final.
     fn expand(&mut self, alloc: Global, img: &Image, at: usize) -> Result<(), AllocError> {
-        self.configs.put(alloc, img, at)?;
+        self.configs.put(at)?;
         self.moves.clear();
         put_moves(&mut self.moves, self.configs.core())?;
         self.children.clear();
@@ -154,7 +154,7 @@ impl Search {
             ending: final_ending(&self.moves),
             busy: 0,
         };
-        self.configs.put(alloc, img, at)?;
+        self.configs.put(at)?;
         self.findings
             .note_end(alloc, end, self.configs.core(), &self.groups)
     }
@@ -189,8 +189,8 @@ impl Search {
             from: at as u32,
             item: self.moves[k],
         };
-        self.configs.put(alloc, img, at)?;
-        let step = self.configs.turn(alloc, img, origin.item)?;
+        self.configs.put(at)?;
+        let step = self.configs.turn(origin.item)?;
         let group = self.group_of(step.slot);
         self.findings.note(&Made { step, group }, origin)?;
         match self.meet(origin)? {
