@@ -26,11 +26,11 @@ HasGrown old new = take (length old) new ≡ old
 -- a name is that of a pair
 pub record IsNameOf (pairs : List (ℕ × ℕ)) (name : ℕ) (pair : ℕ × ℕ) : Type 0 where
   pub kept : name ≤ length pairs
-  pub pair : pair_of pairs name ≡ pair
+  pub is : pair_of pairs name ≡ pair
 
 -- a tree has these leaves
 pub record HasLeaves (pairs : List (ℕ × ℕ)) (depth tree : ℕ) (names : List ℕ) : Type 0 where
-  pub tree : IsTree pairs depth tree
+  pub inner : IsTree pairs depth tree
   pub leaves : leaves pairs depth tree ≡ names
 
 -- the places, from a first one on, at which a list of names differs from another as long, each with its name there

@@ -1,7 +1,7 @@
 //! Pairs of names, each kept once.
 
 ghost use Rattle.std.specs.Prelude.{◌≡◌, ◌≤◌, [], IfOk, OnOk, OnErr, length};
-ghost use Rattle.mm_pairs.specs.Trees.{pair_of, HasGrown, IsNameOf, PairsAreApart};
+ghost use Rattle.mm_pairs.specs.Trees.{pair_of, HasGrown, IsNameOf, PairsAreApart, TreesAreApart};
 
 use indexmap::IndexSet;
 use std::alloc::{AllocError, Global};
@@ -50,11 +50,18 @@ impl Pairs {
         Ok(at as u32 + 1)
     }
 
+    /// Says, for proofs, that trees with the same leaves have the same name. The call does nothing.
+    pub fn apart(&self)
+        ensures pairs { PairsAreApart self.now }
+        ensures trees { TreesAreApart self.now }
+    {
+        let _count = self.pairs.len();
+    }
+
     /// The pair of a name.
     pub fn parts(&self, name: u32) -> (u32, u32)
         requires { name ≤ length self.now }
-        ensures pair { result ≡ pair_of self.now name }
-        ensures apart { PairsAreApart self.now }
+        ensures { result ≡ pair_of self.now name }
     {
         if name == 0 {
             return (0, 0);
