@@ -6,3 +6,4 @@ pub mod Output
 pub mod Parts
 pub mod Tables
 pub mod Named
+pub mod Revisions

@@ -41,4 +41,5 @@ pub use memory_ops::load_kind;
 pub use mm_model::{Event, Pending, Slot, SlotState, Step, Tick};
 pub use operands::{addr_operand, value_operand};
 pub use output::Output;
+pub use restore::Revision;
 pub use state::{Core, turn, turn_into};

@@ -14,6 +14,32 @@ ghost use Rattle.mm_thread.specs.Parts.{events_for, row_with, outputs_with};
 use crate::output::Output;
 use crate::tables::Tables;
 use mm_model::{Event, Slot};
+use std::alloc::Global;
+
+/// Queues and outputs that are to take the place of others.
+#[derive(Drop)]
+pub struct Revision {
+    /// The events of each queue with the index of its slot.
+    pub queues: Vec<(usize, Vec<Event>)>,
+    /// Each group with the count of bytes of its output that stay, and with those after them.
+    pub outputs: Vec<(u8, usize, Vec<u8>)>,
+}
+
+impl Revision {
+    /// Nothing.
+    pub fn new(alloc: Global) -> Revision {
+        Revision {
+            queues: Vec::new(alloc),
+            outputs: Vec::new(alloc),
+        }
+    }
+
+    /// Makes it nothing.
+    pub fn clear(&mut self) {
+        self.queues.clear();
+        self.outputs.clear();
+    }
+}
 
 /// Replaces the slots by these slots of the same numbers, without events.
 pub(crate) fn put_slots(tables: &mut Tables, slots: &[Slot])

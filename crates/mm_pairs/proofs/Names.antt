@@ -1,0 +1,113 @@
+-- What stays of names when more pairs are kept, trees with another leaf, and that trees with the same leaves are the same.
+use Rattle.std.proofs.Common.{◌≡◌, ℕ, zero, suc, ◌+◌, ◌-◌, ◌*◌, ◌^◌, ◌<◌, ◌≤◌, List, [], ◌∷◌, ◌++◌, length, take, drop, slice_index_or, slice_set}
+use Rattle.std.proofs.Common.{refl, sym, ap, ◌∙◌, subst, arith, length-append}
+use Rattle.std.proofs.lemmas.List.{get_or-take, set-append_left, set-append_right, length-take}
+use Rattle.std.proofs.Math.{Nat.pow-suc, Seq.{take-append_seam, drop-append_seam}}
+use Rattle.mm_pairs.specs.Trees.{pair_of, leaves, IsTree, HasGrown, IsNameOf, HasLeaves, PairsAreApart, TreesAreApart}
+
+-- 1. What stays.
+
+pub pair_stays : (old new : List (ℕ × ℕ)) → HasGrown old new → (name : ℕ) → name ≤ length old → pair_of new name ≡ pair_of old name
+pair_stays old new grown zero le = refl
+pair_stays old new grown (suc at) le =
+    sym (get_or-take (length old) new at (0, 0) (omega (arith, le))) ∙ ap (λ (l : List (ℕ × ℕ)). slice_index_or l at (0, 0)) grown
+
+pub no_shorter : (old new : List (ℕ × ℕ)) → HasGrown old new → length old ≤ length new
+no_shorter old new grown = let long = length-take (length old) new in let same = ap length grown in omega (arith, long, same)
+
+pub tree_stays : (old new : List (ℕ × ℕ)) → HasGrown old new → (depth tree : ℕ) → IsTree old depth tree → IsTree new depth tree
+tree_stays old new grown zero tree h = tt
+tree_stays old new grown (suc depth) tree h =
+    let same = pair_stays old new grown tree h.0 in
+    let more = no_shorter old new grown in
+    let low = h.0 in (
+      omega (arith, more, low),
+      subst (λ (p : ℕ × ℕ). IsTree new depth p.0) (sym same) (tree_stays old new grown depth (pair_of old tree).0 h.1),
+      subst (λ (p : ℕ × ℕ). IsTree new depth p.1) (sym same) (tree_stays old new grown depth (pair_of old tree).1 h.2),
+    )
+
+pub leaves_stay : (old new : List (ℕ × ℕ)) → HasGrown old new → (depth tree : ℕ) → IsTree old depth tree → leaves new depth tree ≡ leaves old depth tree
+leaves_stay old new grown zero tree h = refl
+leaves_stay old new grown (suc depth) tree h =
+    ap (λ (p : ℕ × ℕ). leaves new depth p.0 ++ leaves new depth p.1) (pair_stays old new grown tree h.0)
+    ∙ ap (λ l. l ++ leaves new depth (pair_of old tree).1) (leaves_stay old new grown depth (pair_of old tree).0 h.1)
+    ∙ ap (λ l. leaves old depth (pair_of old tree).0 ++ l) (leaves_stay old new grown depth (pair_of old tree).1 h.2)
+
+pub length_leaves : (pairs : List (ℕ × ℕ)) (depth tree : ℕ) → length (leaves pairs depth tree) ≡ 2 ^ depth
+length_leaves pairs zero tree = refl
+length_leaves pairs (suc depth) tree =
+    let both = length-append (leaves pairs depth (pair_of pairs tree).0) (leaves pairs depth (pair_of pairs tree).1) in
+    let left = length_leaves pairs depth (pair_of pairs tree).0 in
+    let right = length_leaves pairs depth (pair_of pairs tree).1 in
+    let twice = pow-suc 2 depth in
+    omega (arith, both, left, right, twice)
+
+-- 2. Trees with the same leaves.
+
+same_pair : (p q : ℕ × ℕ) → p.0 ≡ q.0 → p.1 ≡ q.1 → p ≡ q
+same_pair (a, b) (c, d) e f = ap (λ x. (x, b)) e ∙ ap (λ y. (c, y)) f
+
+front_of : (n : ℕ) (xs ys : List ℕ) → length xs ≡ n → take n (xs ++ ys) ≡ xs
+front_of n xs ys e = ap (λ k. take k (xs ++ ys)) (sym e) ∙ take-append_seam xs ys
+
+back_of : (n : ℕ) (xs ys : List ℕ) → length xs ≡ n → drop n (xs ++ ys) ≡ ys
+back_of n xs ys e = ap (λ k. drop k (xs ++ ys)) (sym e) ∙ drop-append_seam xs ys
+
+pub trees_apart : (pairs : List (ℕ × ℕ)) → PairsAreApart pairs → TreesAreApart pairs
+trees_apart pairs apart zero a b ta tb e = ap (λ l. slice_index_or l 0 0) e
+trees_apart pairs apart (suc depth) a b ta tb e =
+    let xs = leaves pairs depth (pair_of pairs a).0 in
+    let ys = leaves pairs depth (pair_of pairs a).1 in
+    let us = leaves pairs depth (pair_of pairs b).0 in
+    let vs = leaves pairs depth (pair_of pairs b).1 in
+    let lx = length_leaves pairs depth (pair_of pairs a).0 in
+    let lu = length_leaves pairs depth (pair_of pairs b).0 in
+    let left : xs ≡ us = sym (front_of (2 ^ depth) xs ys lx) ∙ ap (take (2 ^ depth)) e ∙ front_of (2 ^ depth) us vs lu in
+    let right : ys ≡ vs = sym (back_of (2 ^ depth) xs ys lx) ∙ ap (drop (2 ^ depth)) e ∙ back_of (2 ^ depth) us vs lu in
+    apart a b ta.0 tb.0 (same_pair (pair_of pairs a) (pair_of pairs b)
+        (trees_apart pairs apart depth (pair_of pairs a).0 (pair_of pairs b).0 ta.1 tb.1 left)
+        (trees_apart pairs apart depth (pair_of pairs a).1 (pair_of pairs b).1 ta.2 tb.2 right))
+
+-- 3. A tree of two.
+
+-- two trees, one of which was there before, joined
+pub joined : (mid new : List (ℕ × ℕ)) (depth left right t : ℕ) (xs ys : List ℕ) → HasGrown mid new → HasLeaves mid depth left xs
+    → HasLeaves mid depth right ys → IsNameOf new t (left, right) → HasLeaves new (suc depth) t (xs ++ ys)
+joined mid new depth left right t xs ys grown l r name = record {
+  inner = (
+    name.kept,
+    subst (λ (p : ℕ × ℕ). IsTree new depth p.0) (sym name.is) (tree_stays mid new grown depth left l.inner),
+    subst (λ (p : ℕ × ℕ). IsTree new depth p.1) (sym name.is) (tree_stays mid new grown depth right r.inner),
+  );
+  leaves = ap (λ (p : ℕ × ℕ). leaves new depth p.0 ++ leaves new depth p.1) name.is
+      ∙ ap (λ k. k ++ leaves new depth right) (leaves_stay mid new grown depth left l.inner ∙ l.leaves)
+      ∙ ap (λ k. xs ++ k) (leaves_stay mid new grown depth right r.inner ∙ r.leaves);
+}
+
+-- a tree that was there before has its leaves still
+pub has_still : (old new : List (ℕ × ℕ)) (depth tree : ℕ) → HasGrown old new → IsTree old depth tree → HasLeaves new depth tree (leaves old depth tree)
+has_still old new depth tree grown h = record { inner = tree_stays old new grown depth tree h; leaves = leaves_stay old new grown depth tree h }
+
+module _ (old mid new : List (ℕ × ℕ)) (depth tree place leaf t : ℕ) where
+  -- another leaf in the left half
+  pub set_left : (left : ℕ) → HasGrown old mid → HasGrown mid new → IsTree old (suc depth) tree → place < 2 ^ depth
+      → HasLeaves mid depth left (slice_set (leaves old depth (pair_of old tree).0) place leaf)
+      → IsNameOf new t (left, (pair_of old tree).1) → HasLeaves new (suc depth) t (slice_set (leaves old (suc depth) tree) place leaf)
+  set_left left first later h low is name =
+      let long = length_leaves old depth (pair_of old tree).0 in
+      subst (HasLeaves new (suc depth) t)
+        (sym (set-append_left (leaves old depth (pair_of old tree).0) (leaves old depth (pair_of old tree).1) place leaf (omega (arith, low, long))))
+        (joined mid new depth left (pair_of old tree).1 t (slice_set (leaves old depth (pair_of old tree).0) place leaf)
+          (leaves old depth (pair_of old tree).1) later is (has_still old mid depth (pair_of old tree).1 first h.2) name)
+
+  -- another leaf in the right half
+  pub set_right : (right : ℕ) → HasGrown old mid → HasGrown mid new → IsTree old (suc depth) tree → 2 ^ depth ≤ place
+      → HasLeaves mid depth right (slice_set (leaves old depth (pair_of old tree).1) (place - 2 ^ depth) leaf)
+      → IsNameOf new t ((pair_of old tree).0, right) → HasLeaves new (suc depth) t (slice_set (leaves old (suc depth) tree) place leaf)
+  set_right right first later h high is name =
+      subst (HasLeaves new (suc depth) t)
+        (sym (set-append_right (leaves old depth (pair_of old tree).0) (leaves old depth (pair_of old tree).1) (2 ^ depth) place leaf
+          (length_leaves old depth (pair_of old tree).0) high))
+        (joined mid new depth (pair_of old tree).0 right t (leaves old depth (pair_of old tree).0)
+          (slice_set (leaves old depth (pair_of old tree).1) (place - 2 ^ depth) leaf) later
+          (has_still old mid depth (pair_of old tree).0 first h.1) is name)
