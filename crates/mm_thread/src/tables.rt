@@ -397,10 +397,7 @@ impl Tables {
         ensures { self.new ≡ with_queue_in self.old at events.now }
     {
         let row = &mut self.rows[at];
-        row.queue.clear();
-        for event in events {
-            row.queue.push(*event);
-        }
+        row.queue.assign(events);
     }
 
     /// Appends bytes to the first ones of a group's output.
