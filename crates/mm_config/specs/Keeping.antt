@@ -1,10 +1,9 @@
 -- When names are those of a configuration, and what a machine with its configurations has.
-use Rattle.std.specs.Prelude.{◌≡◌, ◌⊎◌, ℕ, zero, suc, ◌+◌, ◌-◌, ◌<◌, ◌≤◌, List, [], ◌∷◌, ◌++◌, map, length, zip, replicate}
+use Rattle.std.specs.Prelude.{◌≡◌, ◌⊎◌, ℕ, zero, suc, ◌+◌, ◌-◌, ◌^◌, ◌<◌, ◌≤◌, List, [], ◌∷◌, ◌++◌, map, length, zip, replicate}
 use Rattle.std.specs.Prelude.{slice_index_or, Contains, Option}
 use Rattle.std.specs.List.{AllByRecursion, AllZip}
 use Rattle.mm_model.specs.{declared.event.Event.Event, Image.Image, Memory.page_at, Slot.Slot, Spelling.IsImage}
 use Rattle.mm_model.specs.{Fits.slots_of, State.{State, ThreadRow}}
-use Rattle.mm_machine.specs.Snapshot.{page_numbers}
 use Rattle.mm_pairs.specs.Trees.{pair_of, leaves, IsTree, PairsAreApart}
 use Rattle.mm_config.specs.declared.configs.Configs as code
 use Rattle.mm_config.specs.{Configurations.configuration, Forms.{slot_form, queue_form}, Machines.Configs, States.IsStateOf}
@@ -96,12 +95,12 @@ pub record Stands (i : Image) (v : Configs) (c : code.Configs) : Type 0 where
   pub core : c.core ≡ v.machine.core
   pub memory : c.mem.memory ≡ v.machine.memory
   pub state : IsStateOf i v.machine
-  pub unread : v.machine.cycles ≡ 0
-  pub mapped : c.mapped.items ≡ page_numbers v.machine.memory.pages
+  pub bare : configuration v.machine ≡ v.machine
+  pub mapped : c.mapped.items ≡ map (λ page. page.0) v.machine.memory.pages
   pub depth : length i.slots ≤ length (leaves [] c.depth 0)
   pub names : AreNamesOf i.slots c.depth (kept_in c) v.machine c.now
   pub rest : names_of (kept_in c).pairs (c.now.slots, c.rest) ≡ c.now
   pub states : AllByRecursion (IsStateOf i) v.kept
+  pub all_bare : AllByRecursion (λ s. configuration s ≡ s) v.kept
   pub each : AllZip (λ s key. AreNamesOf i.slots c.depth (kept_in c) s (names_of (kept_in c).pairs key)) v.kept c.kept.keys
-  pub limit : c.limit ≡ v.limit
-  pub few : length v.kept ≤ v.limit
+  pub few : length v.kept ≤ 2 ^ 31

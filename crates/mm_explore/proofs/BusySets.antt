@@ -7,7 +7,8 @@ use Rattle.mm_endless.{specs.Graphs.{children, AreNodes, IsTold, AreClosedSets},
 use Rattle.mm_model.specs.{Fits.slots_of, Flags.flags, Image.Image, State.State}
 use Rattle.mm_explore.specs.{Closed.{IsFirstEndless}, Explored.{IsExplored, IsAll}, Findings.{explored_turns, IsFinal}}
 use Rattle.mm_explore.specs.{Outcomes.slots_at, declared.search.Search.Search}
-use Rattle.mm_explore.specs.Searching.{HasCome, IsBusyBy, AreBusyBy, IsSeenBy, AreSeenBy, IsSetSeen, AreSetsSeen, AreApart, IsBusySet, AreBusySets}
+use Rattle.mm_explore.specs.Searching.{HasCome, IsBusyBy, AreBusyBy, IsSeenBy, AreSeenBy, IsSetSeen, AreSetsSeen, IsBusySet, AreBusySets}
+use Rattle.mm_config.specs.Machines.{AreApart}
 use Rattle.mm_explore.proofs.{Notings.zip_to, SetsSeen.{seen_skip, seen_first, seen_again}, Steps.{list_few, take_whole, searched}}
 use Rattle.mm_explore.proofs.GraphRuns.{graph_long as graph_length, nodes as graph_nodes, children_few as graph_few, first_is, first_on, two_turn, end_recurrent, stays_final, final_stays_by}
 

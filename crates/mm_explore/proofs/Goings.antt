@@ -4,8 +4,9 @@ use Rattle.std.{proofs.Common.{Option, Some, None, refl, sym, ap, ◌∙◌}, sp
 use Rattle.mm_model.specs.Slot.{Slot}
 use Rattle.mm_model.specs.{State.{ThreadRow, State, slot_at, output_of}, Turn.{Turned, turn}}
 use Rattle.mm_model.specs.{Run.{turn_of, after}, Trace.{group_of, group_in}}
-use Rattle.mm_explore.specs.Configurations.{uncounted_row, uncounted, configuration, runs, has_load, running_slots}
-use Rattle.mm_explore.specs.Configurations.{loaded_ports, moves}
+use Rattle.mm_config.specs.Configurations.{uncounted_row, uncounted, configuration}
+use Rattle.mm_explore.specs.Moves.{runs, has_load, running_slots}
+use Rattle.mm_explore.specs.Moves.{loaded_ports, moves}
 use Rattle.mm_explore.specs.Laws.{GoesOnAlike, ConfigurationsGoOn}
 use Rattle.mm_explore.proofs.Uncounted.{uncounted_one, slot_at_so, SameTurn, turns_alike}
 

@@ -5,13 +5,17 @@ use Rattle.mm_model.specs.{Fits.{slots_of, identity_of}, Flags.flags, Image.{Ima
 use Rattle.mm_model.specs.State.{ThreadRow, State, output_of}
 use Rattle.mm_thread.specs.Output.{Output}
 use Rattle.mm_explore.specs.declared.explored.{Standing.{Standing}}
-use Rattle.mm_explore.specs.{Benches.{ArePartsAt, parts_held}, Configurations.{uncounted_slot, uncounted_row, configuration, moves}}
+use Rattle.mm_explore.specs.Benches.{ArePartsAt, parts_held}
+use Rattle.mm_config.specs.Configurations.{uncounted_slot, uncounted_row, configuration}
+use Rattle.mm_explore.specs.Moves.{moves}
 use Rattle.mm_explore.specs.{Findings.{IsFinal, are_none}, FoundLists.{FoundList, Holds}}
 use Rattle.mm_explore.specs.Kept.{Parts, output_part, parts_of, parts_from, kept}
 use Rattle.mm_explore.specs.{Noting.{outcome_held, standings_of}, Searching.{AreBusyBy}}
 use Rattle.mm_explore.specs.{Finds.{as_output, outcome_found}, Results.OutcomeFound}
 use Rattle.mm_explore.specs.Outcomes.{End, IsEnding, AreStanding, IsOutcome, IsSteady, slots_at, ending_of}
-use Rattle.mm_explore.proofs.{ClosedSets.final_stays_all, Keepables.parts_again, KeptRuns.runs_state_of}
+use Rattle.mm_explore.proofs.ClosedSets.{final_stays_all}
+use Rattle.mm_explore.proofs.Keepables.{parts_again}
+use Rattle.mm_config.proofs.States.{runs_state_of}
 use Rattle.mm_explore.specs.declared.parts.Parts as code
 use Rattle.mm_explore.specs.declared.ends.End as code_end
 

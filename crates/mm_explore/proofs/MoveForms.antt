@@ -4,9 +4,11 @@ use Rattle.std.proofs.Common.{refl, sym, ap, ◌∙◌, subst}
 use Rattle.std.specs.List.{AllByRecursion, filter, flat_map, list_any, range_with_len}
 use Rattle.mm_model.specs.{Fits.{IsSlot, slots_of}, Groups.has_group, Image.{Image, start}, Report.{is_of, groups_of}}
 use Rattle.mm_model.specs.{Slot.Slot, State.{ThreadRow, State}, Turn.is_running}
-use Rattle.mm_explore.specs.Assembled.{IsStateOf}
-use Rattle.mm_explore.specs.Configurations.{uncounted_slot, runs, has_load, are_some, running_slots, loaded_ports}
-use Rattle.mm_explore.specs.{Configurations.moves, MoveLists.{running_item, loaded_item, ports_in, moves_in}}
+use Rattle.mm_config.specs.States.{IsStateOf}
+use Rattle.mm_config.specs.Configurations.{uncounted_slot}
+use Rattle.mm_explore.specs.Moves.{runs, has_load, are_some, running_slots, loaded_ports}
+use Rattle.mm_explore.specs.Moves.{moves}
+use Rattle.mm_explore.specs.MoveLists.{running_item, loaded_item, ports_in, moves_in}
 
 -- 1. Moves.
 

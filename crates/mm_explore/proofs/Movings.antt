@@ -13,8 +13,10 @@ use Rattle.mm_model.proofs.{CoreRows.{above_first, rest_rises}, Starts.{start_st
 use Rattle.mm_model.proofs.StateKeeps.{after_state, after_fits}
 use Rattle.mm_laws.proofs.AlikeRows.{numbers_above}
 use Rattle.mm_span.specs.Pairs.{EachPair}
-use Rattle.mm_explore.specs.Configurations.{uncounted, configuration, runs, are_some, has_load, running_slots}
-use Rattle.mm_explore.specs.{Configurations.{loaded_ports, moves}, Laws.OthersAreIdle}
+use Rattle.mm_config.specs.Configurations.{uncounted, configuration}
+use Rattle.mm_explore.specs.Moves.{runs, are_some, has_load, running_slots}
+use Rattle.mm_explore.specs.Moves.{loaded_ports, moves}
+use Rattle.mm_explore.specs.Laws.{OthersAreIdle}
 use Rattle.mm_span.proofs.Members.{none_in, in_first, in_rest, in_map, in_filter, all_at, map_in, filter_in}
 use Rattle.mm_span.proofs.Members.{pairs_both, pairs_filter, pairs_map}
 

@@ -7,16 +7,22 @@ use Rattle.std.specs.List.{AllByRecursion, AllZip, flat_map}
 use Rattle.mm_model.proofs.CoreRows.{each_push}
 use Rattle.mm_model.specs.{Limits.state_limit, Fits.slots_of, Image.{Image, start}, Slot.Slot, Report.groups_of, Spelling.IsImage, Run.run}
 use Rattle.mm_explore.proofs.{FoundForms.map_push, Keepables.parts_again}
-use Rattle.mm_explore.proofs.KeptRuns.{kept_alike, kept_apart, runs_state_of}
+use Rattle.mm_explore.proofs.KeptRuns.{kept_alike, kept_apart}
+use Rattle.mm_config.proofs.States.{runs_state_of}
 use Rattle.mm_span.{specs.Pairs.EachPair, proofs.Members.{in_map, map_in, all_at}}
 use Rattle.mm_explore.proofs.AllFound.{at_index}
 use Rattle.mm_explore.proofs.{MoveForms.{moves_are, small_numbers}, Notings.{noted_more, ended_more, children_more, graph_more}}
 use Rattle.mm_explore.proofs.Searches.{IsNew, search_begins, search_known, search_new, search_full, search_ends}
 use Rattle.mm_explore.proofs.{FirstOnes.index_one, Orders.before_cases, Selections.select_more}
-use Rattle.mm_explore.specs.declared.found.{Looked.{Looked, TheVariants.{Known, New, Full}}, Origin.Origin}
+use Rattle.mm_config.specs.declared.configs.Looked.{Looked}
+use Rattle.mm_config.specs.declared.configs.Looked.TheVariants.{Known, New, Full}
+use Rattle.mm_explore.specs.declared.found.Origin.{Origin}
 use Rattle.mm_explore.specs.declared.{search.{Node.Node, Search.Search}, bench.Bench.Bench, findings.Findings.Findings}
 use Rattle.mm_explore.specs.Benches.{IsAtConfiguration, ArePartsAt, parts_held}
-use Rattle.mm_explore.specs.{Configurations.{uncounted_slot, moves}, Explored.{leads_to, IsLeast, IsExplored, IsAll}, Schedules.Before}
+use Rattle.mm_config.specs.Configurations.{uncounted_slot}
+use Rattle.mm_explore.specs.Moves.{moves}
+use Rattle.mm_explore.specs.Explored.{leads_to, IsLeast, IsExplored, IsAll}
+use Rattle.mm_explore.specs.Schedules.{Before}
 use Rattle.mm_explore.specs.Findings.{Extension, extended, extensions, explored_turns, IsFinal, are_none}
 use Rattle.mm_explore.specs.{FoundLists.{FoundList, led_by, Holds, Looks}, Kept.{Parts, parts_of, parts_from, kept}}
 use Rattle.mm_explore.specs.{MoveLists.moves_in, Noting.{Noted, AreNoted}, Outcomes.{Outcome, End, IsOutcome, Selects}}

@@ -1,6 +1,7 @@
 use Rattle.std.{proofs.Common.{◌<◌, ◌&&◌, length, take, sym, ◌∙◌, subst, slice_index_or, arith}, specs.Prelude.Contains}
 use Rattle.mm_model.specs.{Image.start, Run.run}
-use Rattle.mm_explore.specs.{Configurations.moves, Searching.{node_schedule, StaysBy, AllStay}}
+use Rattle.mm_explore.specs.Moves.{moves}
+use Rattle.mm_explore.specs.Searching.{node_schedule, StaysBy, AllStay}
 use Rattle.mm_explore.proofs.Steps.{take_one, move_inside, stay_more}
 use Rattle.mm_explore.proofs.search.Search.make_all.Goals as goal
 
