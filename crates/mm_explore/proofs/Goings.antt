@@ -44,7 +44,7 @@ moves_bare s =
     ap (λ l. l ++ (if s.core.split then loaded_ports (map uncounted_row s.core.rows) else [])) (running_bare s.core.rows)
     ∙ ap (λ l. running_slots s.core.rows ++ (if s.core.split then l else [])) (loaded_bare s.core.rows)
 
-outputs_bare : (s : State) (groups : List ℕ) → map (output_of (configuration s).core) groups ≡ map (output_of s.core) groups
+pub outputs_bare : (s : State) (groups : List ℕ) → map (output_of (configuration s).core) groups ≡ map (output_of s.core) groups
 unfolding configuration output_of
 outputs_bare s groups = refl
 

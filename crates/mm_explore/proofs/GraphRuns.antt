@@ -13,7 +13,7 @@ use Rattle.mm_config.specs.Configurations.{uncounted_slot}
 use Rattle.mm_explore.specs.Moves.{moves, running_slots, loaded_ports, runs, has_load}
 use Rattle.mm_explore.specs.Explored.{leads_to, IsLeast, IsExplored, IsAll}
 use Rattle.mm_explore.specs.{Findings.IsFinal, Schedules.Before, Searching.{IsChild, AreChildren, IsGraph}}
-use Rattle.mm_explore.proofs.{AllFound.at_index, ApartSlots.{few_slots, slots_count}, FirstOnes.index_one, HeldEnds.slots_bare, Movings.{moves_or_idles, idle_leads}, Coverings.leads_more}
+use Rattle.mm_explore.proofs.{AllFound.at_index, HeldEnds.{few_slots, slots_count}, FirstOnes.index_one, HeldEnds.slots_bare, Movings.{moves_or_idles, idle_leads}, Coverings.leads_more}
 use Rattle.mm_explore.proofs.Orders.{before_self, before_through, before_cases, more}
 use Rattle.mm_explore.proofs.ClosedSets.{all_alike, on_same, on_trans, recurrent_ends, ends_back, end_led, final_stays_all}
 use Rattle.mm_explore.proofs.Turning.{node, node_inside, leads_node, same_least}

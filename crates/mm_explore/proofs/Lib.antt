@@ -19,6 +19,7 @@ pub mod Earliest
 pub mod Searches
 pub mod Ones
 pub mod RunsFound
+pub mod Spelled
 pub mod MoveForms
 pub mod Notings
 pub mod Steps

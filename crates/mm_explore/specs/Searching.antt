@@ -3,11 +3,11 @@ use Rattle.std.specs.Prelude.{◌≡◌, ◌⊎◌, ℕ, ◌+◌, ◌^◌, ◌<�
 use Rattle.std.specs.Prelude.{drop, Contains, Option, Some, None, slice_get, slice_index_or}
 use Rattle.std.specs.List.{AllByRecursion, AllZip, flat_map}
 use Rattle.mm_config.specs.declared.configs.Looked.{Looked, TheVariants.{Known, New, Full}}
-use Rattle.mm_model.specs.{Flags.flags, Image.{Image, start}, Report.groups_of, Run.run, Spelling.IsImage}
+use Rattle.mm_model.specs.{Flags.flags, Image.{Image, start}, Report.groups_of, Run.run, Spelling.IsImage, Trace.group_in}
 use Rattle.mm_span.specs.Pairs.{EachPair}
-use Rattle.mm_explore.specs.declared.{findings.Findings.Findings, found.Origin.Origin, search.Search.Search}
+use Rattle.mm_explore.specs.declared.{findings.Findings.Findings, found.Origin.Origin, search.{Made.Made, Search.Search}}
 use Rattle.mm_explore.specs.{Closed.{LeadsOn, IsFirstEndless}, Moves.moves, Explored.{leads_to, IsLeast, IsExplored, IsAll}}
-use Rattle.mm_explore.specs.Findings.{Extension, extended, extensions, explored_turns, IsFinal}
+use Rattle.mm_explore.specs.Findings.{Extension, extended, extensions, explored_turns, turn_at, IsFinal}
 use Rattle.mm_explore.specs.{FoundLists.{HasKept, Looks}, Noting.{Noted, AreNoted}, Schedules.Before}
 use Rattle.mm_explore.specs.Outcomes.{End, Selects, AreEndsOf, AreEnds, IsSteady, slots_at}
 
@@ -125,6 +125,25 @@ AllStay true i t ms = AllByRecursion (λ m. leads_to i (t ++ m ∷ []) ≡ leads
 AllStay false i t ms = IsFinal i t → ⊥
 
 -- 4. One move.
+
+-- a move was made: that of an item after a schedule
+pub record IsMade (i : Image) (t : List ℕ) (item : ℕ) (m : Made) : Type 0 where
+  pub step : m.step ≡ (turn_at i (record { schedule = t; item = item })).step
+  pub group : m.group ≡ group_in (turn_at i (record { schedule = t; item = item }))
+
+-- a search makes the next move of the configuration at an index, which leads back to it or does not
+pub record Makes (i : Image) (stays : Bool) (old new : Search) (at k : ℕ) : Type 0 where
+  pub within : IsWithin i new at (k + 1)
+  pub schedule : schedule_at new at ≡ schedule_at old at
+  pub moves : new.moves ≡ old.moves
+  pub limit : new.limit ≡ old.limit
+  pub stays : StaysBy stays i (schedule_at old at) (slice_index_or old.moves.items k 0)
+
+-- a search has noted the configuration at an index, all of whose moves it has made, if it is final
+pub record IsNotedIfFinal (i : Image) (old new : Search) (at : ℕ) : Type 0 where
+  pub kept : HasKept i old.found new.configs
+  pub noted : Noted i old.found (turns_before i old.found at (length old.moves.items)) new.findings
+  pub ended : Ended i old.found (take (at + 1) old.found) new.findings
 
 -- the index of what was looked up, if there was room
 abbrev pub index_of : Looked → List (List ℕ) → Option ℕ

@@ -72,6 +72,7 @@ fn put_standings(key: &mut Vec<u64>, core: &Core, busy: u64) -> Result<(), Alloc
     ensures { OnOk result (key.new.items ≡ key.old.items ++ map standing_number_of
         (standings_of (flags (length (slots_of core.now)) busy) (slots_of core.now))) }
 {
+    core.known();
     for at in 0..core.count() {
         let slot = core.nth(at);
         key.push(standing_number(standing(busy >> at & 1 == 1, slot.state)))?;

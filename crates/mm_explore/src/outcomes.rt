@@ -27,6 +27,7 @@ fn put_slots(out: &mut Vec<(u8, Standing)>, core: &Core, busy: u64) -> Result<()
     ensures { OnOk result (out.new.items ≡ out.old.items ++ zip (map (λ s. s.number) (slots_of core.now))
         (standings_of (flags (length (slots_of core.now)) busy) (slots_of core.now))) }
 {
+    core.known();
     for at in 0..core.count() {
         let slot = core.nth(at);
         out.push((slot.number, standing(busy >> at & 1 == 1, slot.state)))?;

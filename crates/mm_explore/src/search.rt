@@ -14,7 +14,8 @@ ghost use Rattle.mm_explore.specs.{Findings.{are_none, explored_turns, turn_at},
 ghost use Rattle.mm_explore.specs.FoundLists.{HasKept, IsAt};
 ghost use Rattle.mm_explore.specs.MoveLists.{running_item, loaded_item, moves_in};
 ghost use Rattle.mm_explore.specs.Outcomes.{ending_of};
-ghost use Rattle.mm_explore.specs.Searching.{HasCome, IsBefore, IsWithin, StaysBy, AllStay, schedule_at, Met};
+ghost use Rattle.mm_explore.specs.Searching.{HasCome, IsBefore, IsWithin, AllStay, schedule_at};
+ghost use Rattle.mm_explore.specs.Searching.{IsMade, Makes, Met, IsNotedIfFinal};
 
 use crate::ends::End;
 use crate::explored::{Ending, Explored};
@@ -77,6 +78,7 @@ fn put_if_loaded(out: &mut Vec<u8>, slot: &Slot) -> Result<(), AllocError>
 fn put_loaded(out: &mut Vec<u8>, core: &Core) -> Result<(), AllocError>
     ensures { OnOk result (out.new.items ≡ out.old.items ++ flat_map loaded_item (slots_of core.now)) }
 {
+    core.known();
     for at in 0..core.count() {
         put_if_loaded(out, core.nth(at))?;
     }
@@ -187,11 +189,8 @@ impl Search {
     {
         self.list_moves(img, at)?;
         let stay = self.make_all(img, at)?;
-        self.keep_children()?;
-        if stay {
-            self.note_final(alloc, img, at)?;
-        }
-        Ok(())
+        self.note_if_final(alloc, img, at, stay)?;
+        self.keep_children()
     }
 
     /// Lists the moves from a configuration. None of them is made yet.
@@ -208,11 +207,22 @@ impl Search {
         Ok(())
     }
 
-    /// Notes a final configuration.
-    fn note_final(&mut self, alloc: Global, img: &Image, at: usize) -> Result<(), AllocError>
-        requires { FinalIsLeft img.now self.old at }
-        ensures { OnOk result (FinalIsNoted img.now self.old self.new at) }
+    /// Notes a configuration if it is final: if each of its moves leads back to it.
+    fn note_if_final(
+        &mut self,
+        alloc: Global,
+        img: &Image,
+        at: usize,
+        stay: bool,
+    ) -> Result<(), AllocError>
+        requires within { IsWithin img.now self.old at (length self.old.moves.items) }
+        requires stay { AllStay stay img.now (schedule_at self.old at) self.old.moves.items }
+        ensures noted { OnOk result (IsNotedIfFinal img.now self.old self.new at) }
+        ensures rest { self.new ≡ record self.old { configs = self.new.configs; findings = self.new.findings } }
     {
+        if !stay {
+            return Ok(());
+        }
         self.configs.put(at)?;
         let end = End {
             at: at as u32,

@@ -168,10 +168,10 @@ module _ (core : Core) (h : IsFormed core) (match : Matches core) (s : Slot) (at
       let waits : Core = put_slot core (stood s Waiting) in
       let q : List Event = queue_at waits g ++ e ∷ [] in
       record {
-        slots = own_put core s.number (put_queue waits g q)
+        slots = own_put core s.number (stood s Waiting) refl (put_queue waits g q)
             (λ n ne. slot_at-put_queue waits g q n ∙ put_others core s.number (stood s Waiting) refl core n ne);
         queues = λ n. elim (cases_eq n g) [
-          | inl e ↦ event_leaves e c g is n e
+          | inl same ↦ event_leaves e c g is n same
           | inr ne ↦ QueueLeft.Same (queue_at-put_other waits g q n ne ∙ queue_at-put_slot core (stood s Waiting) n)
         ];
         outputs = λ k. OutputLeft.Same (same_output core (core_faulted core s e (Some g)) (fault_same core s e (Some g)) k);
@@ -253,8 +253,8 @@ module _ (core : Core) (h : IsFormed core) (match : Matches core) (s : Slot) (at
     put_queues o n = queue_at-put_slot (with_other core o) (slot_after s c) n ∙ other_queues o n
 
     change_slots : (out : Option ℕ) (o : Option Slot) (q : Option (List Event)) → c.other ≡ o → (n : ℕ) → SlotLeft core (with_out (mid o q) s.group out) s.number n
-    change_slots out None q e = own_put core s.number (with_out (mid None q) s.group out) (λ n ne. (out_same (mid None q) s.group out).slots n ∙ mid_slots None q n ne)
-    change_slots out (Some o) q e = other_put core s.number o (serves o e) (with_out (mid (Some o) q) s.group out)
+    change_slots out None q e = own_put core s.number s refl (with_out (mid None q) s.group out) (λ n ne. (out_same (mid None q) s.group out).slots n ∙ mid_slots None q n ne)
+    change_slots out (Some o) q e = other_put core s.number s refl o (serves o e) (with_out (mid (Some o) q) s.group out)
         (λ n ne. (out_same (mid (Some o) q) s.group out).slots n ∙ mid_slots (Some o) q n ne)
 
     -- the slot is still there

@@ -221,6 +221,13 @@ impl Core {
         }
     }
 
+    /// Says, for proofs, what a core always is. The call does nothing.
+    pub fn known(&self)
+        ensures { IsCore self.now }
+    {
+        let _count = self.tables.len();
+    }
+
     /// The count of slots.
     pub fn count(&self) -> usize
         ensures { result ≡ length (slots_of self.now) }
