@@ -1,7 +1,7 @@
 -- What stays of names when more pairs are kept, trees with another leaf, and that trees with the same leaves are the same.
 use Rattle.std.proofs.Common.{◌≡◌, ℕ, zero, suc, ◌+◌, ◌-◌, ◌*◌, ◌^◌, ◌<◌, ◌≤◌, List, [], ◌∷◌, ◌++◌, length, take, drop, slice_index_or, slice_set}
 use Rattle.std.proofs.Common.{refl, sym, ap, ◌∙◌, subst, arith, length-append}
-use Rattle.std.proofs.lemmas.List.{get_or-take, set-append_left, set-append_right, length-take}
+use Rattle.std.proofs.lemmas.List.{get_or-take, get_or_append_left, get_or-append_right, set-append_left, set-append_right, length-take}
 use Rattle.std.proofs.Math.{Nat.pow-suc, Seq.{take-append_seam, drop-append_seam}}
 use Rattle.mm_pairs.specs.Trees.{pair_of, leaves, IsTree, HasGrown, IsNameOf, HasLeaves, PairsAreApart, TreesAreApart}
 
@@ -71,7 +71,7 @@ trees_apart pairs apart (suc depth) a b ta tb e =
 -- 3. A tree of two.
 
 -- two trees, one of which was there before, joined
-pub joined : (mid new : List (ℕ × ℕ)) (depth left right t : ℕ) (xs ys : List ℕ) → HasGrown mid new → HasLeaves mid depth left xs
+joined : (mid new : List (ℕ × ℕ)) (depth left right t : ℕ) (xs ys : List ℕ) → HasGrown mid new → HasLeaves mid depth left xs
     → HasLeaves mid depth right ys → IsNameOf new t (left, right) → HasLeaves new (suc depth) t (xs ++ ys)
 joined mid new depth left right t xs ys grown l r name = record {
   inner = (
@@ -88,26 +88,44 @@ joined mid new depth left right t xs ys grown l r name = record {
 pub has_still : (old new : List (ℕ × ℕ)) (depth tree : ℕ) → HasGrown old new → IsTree old depth tree → HasLeaves new depth tree (leaves old depth tree)
 has_still old new depth tree grown h = record { inner = tree_stays old new grown depth tree h; leaves = leaves_stay old new grown depth tree h }
 
-module _ (old mid new : List (ℕ × ℕ)) (depth tree place leaf t : ℕ) where
-  -- another leaf in the left half
-  pub set_left : (left : ℕ) → HasGrown old mid → HasGrown mid new → IsTree old (suc depth) tree → place < 2 ^ depth
-      → HasLeaves mid depth left (slice_set (leaves old depth (pair_of old tree).0) place leaf)
-      → IsNameOf new t (left, (pair_of old tree).1) → HasLeaves new (suc depth) t (slice_set (leaves old (suc depth) tree) place leaf)
-  set_left left first later h low is name =
-      let long = length_leaves old depth (pair_of old tree).0 in
-      subst (HasLeaves new (suc depth) t)
-        (sym (set-append_left (leaves old depth (pair_of old tree).0) (leaves old depth (pair_of old tree).1) place leaf (omega (arith, low, long))))
-        (joined mid new depth left (pair_of old tree).1 t (slice_set (leaves old depth (pair_of old tree).0) place leaf)
-          (leaves old depth (pair_of old tree).1) later is (has_still old mid depth (pair_of old tree).1 first h.2) name)
+-- the halves of a tree
+module _ (old : List (ℕ × ℕ)) (depth d tree place : ℕ) (parts : ℕ × ℕ) (is : depth ≡ suc d) (are : parts ≡ pair_of old tree) where
+  pub both : leaves old depth tree ≡ leaves old d parts.0 ++ leaves old d parts.1
+  both = ap (λ k. leaves old k tree) is ∙ ap (λ (p : ℕ × ℕ). leaves old d p.0 ++ leaves old d p.1) (sym are)
 
-  -- another leaf in the right half
-  pub set_right : (right : ℕ) → HasGrown old mid → HasGrown mid new → IsTree old (suc depth) tree → 2 ^ depth ≤ place
-      → HasLeaves mid depth right (slice_set (leaves old depth (pair_of old tree).1) (place - 2 ^ depth) leaf)
-      → IsNameOf new t ((pair_of old tree).0, right) → HasLeaves new (suc depth) t (slice_set (leaves old (suc depth) tree) place leaf)
-  set_right right first later h high is name =
-      subst (HasLeaves new (suc depth) t)
-        (sym (set-append_right (leaves old depth (pair_of old tree).0) (leaves old depth (pair_of old tree).1) (2 ^ depth) place leaf
-          (length_leaves old depth (pair_of old tree).0) high))
-        (joined mid new depth (pair_of old tree).0 right t (leaves old depth (pair_of old tree).0)
-          (slice_set (leaves old depth (pair_of old tree).1) (place - 2 ^ depth) leaf) later
-          (has_still old mid depth (pair_of old tree).0 first h.1) is name)
+  pub two : IsTree old depth tree → IsTree old d parts.0 × IsTree old d parts.1
+  two h =
+      let inner = subst (λ k. IsTree old k tree) is h in
+      (subst (λ (p : ℕ × ℕ). IsTree old d p.0) (sym are) inner.1, subst (λ (p : ℕ × ℕ). IsTree old d p.1) (sym are) inner.2)
+
+  pub leaf_left : place < 2 ^ d → slice_index_or (leaves old d parts.0) place 0 ≡ slice_index_or (leaves old depth tree) place 0
+  leaf_left low =
+      let long = length_leaves old d parts.0 in
+      sym (ap (λ l. slice_index_or l place 0) both ∙ get_or_append_left (leaves old d parts.0) (leaves old d parts.1) 0 place (omega (arith, low, long)))
+
+  pub leaf_right : 2 ^ d ≤ place → slice_index_or (leaves old d parts.1) (place - 2 ^ d) 0 ≡ slice_index_or (leaves old depth tree) place 0
+  leaf_right high =
+      sym (ap (λ l. slice_index_or l place 0) both
+        ∙ get_or-append_right (leaves old d parts.0) (leaves old d parts.1) (2 ^ d) place 0 (length_leaves old d parts.0) high)
+
+  module _ (mid new : List (ℕ × ℕ)) (leaf t : ℕ) (first : HasGrown old mid) (later : HasGrown mid new) (h : IsTree old depth tree) where
+    -- another leaf in the left half
+    pub set_left : (left : ℕ) → place < 2 ^ d → HasLeaves mid d left (slice_set (leaves old d parts.0) place leaf)
+        → IsNameOf new t (left, parts.1) → HasLeaves new depth t (slice_set (leaves old depth tree) place leaf)
+    set_left left low made name =
+        let long = length_leaves old d parts.0 in
+        let set = set-append_left (leaves old d parts.0) (leaves old d parts.1) place leaf (omega (arith, low, long)) in
+        let all = joined mid new d left parts.1 t (slice_set (leaves old d parts.0) place leaf) (leaves old d parts.1) later made
+        (has_still old mid d parts.1 first (two h).1) name in
+        subst (λ k. HasLeaves new k t (slice_set (leaves old depth tree) place leaf)) (sym is)
+        (subst (HasLeaves new (suc d) t) (sym (ap (λ l. slice_set l place leaf) both ∙ set)) all)
+
+    -- another leaf in the right half
+    pub set_right : (right : ℕ) → 2 ^ d ≤ place → HasLeaves mid d right (slice_set (leaves old d parts.1) (place - 2 ^ d) leaf)
+        → IsNameOf new t (parts.0, right) → HasLeaves new depth t (slice_set (leaves old depth tree) place leaf)
+    set_right right high made name =
+        let set = set-append_right (leaves old d parts.0) (leaves old d parts.1) (2 ^ d) place leaf (length_leaves old d parts.0) high in
+        let all = joined mid new d parts.0 right t (leaves old d parts.0) (slice_set (leaves old d parts.1) (place - 2 ^ d) leaf) later
+        (has_still old mid d parts.0 first (two h).0) made name in
+        subst (λ k. HasLeaves new k t (slice_set (leaves old depth tree) place leaf)) (sym is)
+        (subst (HasLeaves new (suc d) t) (sym (ap (λ l. slice_set l place leaf) both ∙ set)) all)
