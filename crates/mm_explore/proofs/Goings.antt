@@ -58,7 +58,7 @@ group_so : (o : Option Slot) → group_of (uncounted_one o) ≡ group_of o
 group_so None = refl
 group_so (Some s) = refl
 
-group_bare : (t : Turned) → group_of (slot_at (uncounted t.core) t.step.slot) ≡ group_in t
+pub group_bare : (t : Turned) → group_of (slot_at (uncounted t.core) t.step.slot) ≡ group_in t
 group_bare t = ap group_of (slot_at_so t.core t.step.slot) ∙ group_so (slot_at t.core t.step.slot)
 
 turns_same : (s t : State) (n : ℕ) → configuration s ≡ configuration t → SameTurn (turn_of s n) (turn_of t n)

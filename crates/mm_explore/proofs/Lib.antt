@@ -32,3 +32,4 @@ pub mod Tallies
 pub mod AllFound
 pub mod Notes
 pub mod LeftOver
+pub mod Reads

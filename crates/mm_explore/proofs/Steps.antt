@@ -5,19 +5,23 @@ use Rattle.std.proofs.{Common.{append_assoc, append-nil, length-append}, Math.De
 use Rattle.std.specs.Prelude.{◌==◌, Contains, Some, slice_get, Result, Ok, Err, IfOk, OnOk}
 use Rattle.std.specs.List.{AllByRecursion, AllZip, flat_map}
 use Rattle.mm_config.specs.declared.configs.{Configs.Configs, Looked.{Looked, TheVariants.{Known, New, Full}}}
+use Rattle.mm_config.specs.{Configurations.{configuration, uncounted}, Keeping.Stands, Machines.{Configs as ConfigsValue, Keeps}}
 use Rattle.mm_model.proofs.CoreRows.{each_push}
-use Rattle.mm_model.specs.{Limits.state_limit, Image.{Image, start}, Report.groups_of, Spelling.IsImage, State.State, Run.run}
+use Rattle.mm_model.specs.{declared.step.Step.Step, Limits.state_limit, Image.{Image, start}, Report.groups_of, Spelling.IsImage}
+use Rattle.mm_model.specs.{State.{Core, State, slot_at}, Run.{after, run, turn_of}, Trace.group_of}
 use Rattle.mm_span.{specs.Pairs.EachPair, proofs.Members.{in_map, map_in, all_at}}
 use Rattle.mm_explore.proofs.AllFound.{at_index}
 use Rattle.mm_explore.proofs.{Notings.{noted_more, ended_more, ended_skip, children_more, graph_more}, Spelled.map_push}
 use Rattle.mm_explore.proofs.Searches.{IsNew, search_begins, search_known, search_new, search_full, search_ends}
 use Rattle.mm_explore.proofs.{FirstOnes.index_one, Orders.before_cases, Selections.select_more}
-use Rattle.mm_explore.specs.declared.{findings.Findings.Findings, found.Origin.Origin, search.Search.Search}
+use Rattle.mm_explore.specs.declared.{findings.Findings.Findings, found.Origin.Origin, search.{Made.Made, Search.Search}}
+use Rattle.mm_explore.specs.Laws.{GoesOnAlike}
+use Rattle.mm_explore.proofs.{Coverings.leads_more, Goings.{configurations_go_on, group_bare}, Uncounted.uncounted_again}
 use Rattle.mm_explore.specs.{Moves.moves, Explored.{leads_to, IsLeast, IsExplored, IsAll}, Schedules.Before}
 use Rattle.mm_explore.specs.Findings.{Extension, extended, extensions, explored_turns, IsFinal, are_none}
-use Rattle.mm_explore.specs.{FoundLists.{led_by, HasKept, Looks}, Noting.{Noted, AreNoted}, Outcomes.{Outcome, End, IsOutcome, Selects}}
+use Rattle.mm_explore.specs.{FoundLists.{led_by, with_configs, IsAt, HasKept, Looks}, Noting.{Noted, AreNoted}, Outcomes.{Outcome, End, IsOutcome, Selects}}
 use Rattle.mm_explore.specs.Searching.{GoesOn, IsFull, IsChild, IsGraph, Ended, HasCome, IsBefore, IsWithin, schedule_at, turns_before}
-use Rattle.mm_explore.specs.Searching.{turns_from, StaysBy, AllStay, index_of, Makes, Met, IsNotedIfFinal}
+use Rattle.mm_explore.specs.Searching.{turns_from, StaysBy, AllStay, index_of, IsMade, Makes, Met, IsNotedIfFinal}
 
 -- 1. Lists up to an index and from it on.
 
@@ -183,10 +187,10 @@ pub record Grown (list now : List (List ℕ)) : Type 0 where
   pub more : List (List ℕ)
   pub list : now ≡ list ++ more
 
-grown : (i : Image) (limit : ℕ) (looked : Looked) (t : List ℕ) (o : Origin) (list now : List (List ℕ)) → Looks i limit looked t o list now → Grown list now
-grown i limit (Known c) t o list now h = record { more = []; list = h.1 ∙ sym (append-nil list) }
-grown i limit New t o list now h = record { more = led_by list o ∷ []; list = h.2 }
-grown i limit Full t o list now h = record { more = []; list = h.2 ∙ sym (append-nil list) }
+grown : (i : Image) (limit : ℕ) (looked : Looked) (o : Origin) (list now : List (List ℕ)) → Looks i limit looked o list now → Grown list now
+grown i limit (Known c) o list now h = record { more = []; list = h.1 ∙ sym (append-nil list) }
+grown i limit New o list now h = record { more = led_by list o ∷ []; list = h.2 }
+grown i limit Full o list now h = record { more = []; list = h.2 ∙ sym (append-nil list) }
 
 -- the schedule at an index leads to the configuration there
 pub record HasConfig (i : Image) (list : List (List ℕ)) (c : ℕ) (s : State) : Type 0 where
@@ -209,20 +213,20 @@ get_last [] x = refl
 get_last (y ∷ xs) x = get_last xs x
 
 -- where the look-up of a move's configuration is, the move leads
-child_of : (i : Image) (limit : ℕ) (looked : Looked) (c : ℕ) (s t : List ℕ) (m : ℕ) (o : Origin) (list now : List (List ℕ)) → t ++ m ∷ [] ≡ s → led_by list o ≡ s
-    → Looks i limit looked s o list now → Some c ≡ index_of looked list → IsChild i now t m c
-child_of i limit (Known a) c s t m o list now e led h is =
+child_of : (i : Image) (limit : ℕ) (looked : Looked) (c : ℕ) (t : List ℕ) (m : ℕ) (o : Origin) (list now : List (List ℕ)) → led_by list o ≡ t ++ m ∷ []
+    → Looks i limit looked o list now → Some c ≡ index_of looked list → IsChild i now t m c
+child_of i limit (Known a) c t m o list now led h is =
     let same : c ≡ a = cc in
-    let k = has_config i list a (leads_to i s) h.0 in
-    record { schedule = k.schedule; at = ap (slice_get now) same ∙ ap (λ l. slice_get l a) h.1 ∙ k.at; leads = k.leads ∙ ap (leads_to i) (sym e) }
-child_of i limit New c s t m o list now e led h is =
+    let k = has_config i list a (leads_to i (led_by list o)) h.0 in
+    record { schedule = k.schedule; at = ap (slice_get now) same ∙ ap (λ l. slice_get l a) h.1 ∙ k.at; leads = k.leads ∙ ap (leads_to i) led }
+child_of i limit New c t m o list now led h is =
     let same : c ≡ length list = cc in
     record {
       schedule = led_by list o;
       at = ap (slice_get now) same ∙ ap (λ l. slice_get l (length list)) h.2 ∙ get_last list (led_by list o);
-      leads = ap (leads_to i) (led ∙ sym e);
+      leads = ap (leads_to i) led;
     }
-child_of i limit Full c s t m o list now e led h is = cc
+child_of i limit Full c t m o list now led h is = cc
 
 -- whether there was room for all, after a look-up
 abbrev pub all_after : Bool → Option ℕ → Bool
@@ -246,24 +250,28 @@ module _ (i : Image) (img : IsImage i) (limit : ℕ) (list now : List (List ℕ)
   left = turns_from i list at (k + 1)
 
   comes_to : (looked : Looked) (all : Bool) → GoesOn all i limit list (turns_before i list at k) (turns_from i list at k)
-      → Looks i limit looked (extended x) o list now → ComesTo now (all_after all (index_of looked list))
+      → Looks i limit looked o list now → ComesTo now (all_after all (index_of looked list))
   comes_to looked all goes h = by looked h
     where
       next : GoesOn all i limit list done (x ∷ left)
       next = subst (GoesOn all i limit list done) ahead goes
 
-      by : (l : Looked) → Looks i limit l (extended x) o list now → ComesTo now (all_after all (index_of l list))
+      new : (Contains (map (leads_to i) list) (leads_to i (led_by list o)) → ⊥) → IsNew i list (extended x)
+      new none = new_leads i list (extended x) (subst (λ u. Contains (map (leads_to i) list) (leads_to i u) → ⊥) led none)
+
+      by : (l : Looked) → Looks i limit l o list now → ComesTo now (all_after all (index_of l list))
       by (Known c) h =
-          let v = known_leads i list (extended x) (get_in (map (leads_to i) list) c (leads_to i (extended x)) h.0) in
-          subst (λ l. ComesTo l all) (sym h.1) (subst (λ d. GoesOn all i limit list d left) (sym made) (goes_known i img limit list done x left all next v.0 v.1 v.2))
+          let v = known_leads i list (led_by list o) (get_in (map (leads_to i) list) c (leads_to i (led_by list o)) h.0) in
+          subst (λ l. ComesTo l all) (sym h.1)
+          (subst (λ d. GoesOn all i limit list d left) (sym made) (goes_known i img limit list done x left all next v.0 v.1 (v.2 ∙ ap (leads_to i) led)))
       by Full h =
           let few = list_few i all limit list done (x ∷ left) next in
           let most = h.1 in
           subst (λ l. ComesTo l false) (sym h.2)
-          (subst (λ d. IsFull i limit list d left) (sym made) (goes_full i img limit list done x left all next (new_leads i list (extended x) h.0) (omega (arith, few, most))))
+          (subst (λ d. IsFull i limit list d left) (sym made) (goes_full i img limit list done x left all next (new h.0) (omega (arith, few, most))))
       by New h =
           let longer = list ++ extended x ∷ [] in
-          let went = goes_new i img limit list done x left all next (new_leads i list (extended x) h.0) h.1 in
+          let went = goes_new i img limit list done x left all next (new h.0) h.1 in
           let before : done ++ x ∷ [] ≡ turns_before i longer at (k + 1) = sym made ∙ sym (before_more i list (extended x ∷ []) at inside (k + 1)) in
           let after : left ++ extensions i (extended x) ≡ turns_from i longer at (k + 1) = sym (from_push i list (extended x) at (k + 1) inside) in
           let there : ComesTo longer all =
@@ -314,8 +322,8 @@ module _ (i : Image) (limit : ℕ) (list : List (List ℕ)) (at : ℕ) (inside :
   kept_there : (m : ℕ) → leads_to i (t ++ m ∷ []) ≡ leads_to i t → Contains (map (leads_to i) list) (leads_to i (t ++ m ∷ []))
   kept_there m e = subst (Contains (map (leads_to i) list)) (sym e) (in_map (leads_to i) list t (get_in list at t at_here))
 
-  stays_so : (looked : Looked) (m : ℕ) (o : Origin) (now : List (List ℕ)) → Looks i limit looked (t ++ m ∷ []) o list now → StaysBy (leads_back at (index_of looked list)) i t m
-  stays_so (Known c) m o now h = by (c == at) refl
+  stays_so : (looked : Looked) (m : ℕ) (now : List (List ℕ)) → Looks i limit looked (record { from = at; item = m }) list now → StaysBy (leads_back at (index_of looked list)) i t m
+  stays_so (Known c) m now h = by (c == at) refl
     where
       there : HasConfig i list c (leads_to i (t ++ m ∷ []))
       there = has_config i list c (leads_to i (t ++ m ∷ [])) h.0
@@ -329,12 +337,12 @@ module _ (i : Image) (limit : ℕ) (list : List (List ℕ)) (at : ℕ) (inside :
       by false e = λ back.
           let same = one_index i list k c at there.schedule t there.at at_here (there.leads ∙ back) in
           both_ways (c == at) e (eq-eqb c at same)
-  stays_so New m o now h = by (length list == at) refl
+  stays_so New m now h = by (length list == at) refl
     where
       by : (b : Bool) → (length list == at) ≡ b → StaysBy b i t m
       by true e = let same = eqb-true (length list) at e in absurd (omega (arith, same, inside))
       by false e = λ back. h.0 (kept_there m back)
-  stays_so Full m o now h = λ back. h.0 (kept_there m back)
+  stays_so Full m now h = λ back. h.0 (kept_there m back)
 
 -- 6. A move.
 
@@ -367,9 +375,9 @@ module _ (i : Image) (s : Search) (at k : ℕ) (w : IsWithin i s at k) (move : k
   -- what is left by a look-up of where the move leads
   module _ (b : Configs) (f : Findings) (mid : Search) (child : Option ℕ)
       (noted : Noted i s.found (turns_before i s.found at k ++ x ∷ []) f) (ended : Ended i s.found (take at s.found) f)
-      (met : Met i (extended x) (record { from = at; item = slice_index_or s.moves.items k 0 }) child (record s { configs = b; findings = f }) mid) where
+      (met : Met i (record { from = at; item = slice_index_or s.moves.items k 0 }) child (record s { configs = b; findings = f }) mid) where
     more : Grown s.found mid.found
-    more = grown i s.limit met.looked (extended x) (record { from = at; item = slice_index_or s.moves.items k 0 }) s.found mid.found met.looks
+    more = grown i s.limit met.looked (record { from = at; item = slice_index_or s.moves.items k 0 }) s.found mid.found met.looks
 
     same_schedule : schedule_at mid at ≡ u
     same_schedule = ap (λ l. slice_index_or l at []) more.list ∙ same_here i s.found more.more at w.inside
@@ -398,7 +406,7 @@ module _ (i : Image) (s : Search) (at k : ℕ) (w : IsWithin i s at k) (move : k
         subst (λ l. AllZip (IsChild i mid.found u) l (s.children.items ++ c ∷ [])) (sym (take_one s.moves.items k 0 move))
         (zip_push (IsChild i mid.found u) (take k s.moves.items) s.children.items m c
         (subst (λ l. AllZip (IsChild i l u) (take k s.moves.items) s.children.items) (sym more.list) (children_more i s.found more.more u (take k s.moves.items) s.children.items (w.children e)))
-        (child_of i s.limit met.looked c (extended x) u m (record { from = at; item = m }) s.found mid.found refl refl met.looks (is ∙ met.child)))
+        (child_of i s.limit met.looked c u m (record { from = at; item = m }) s.found mid.found refl met.looks (is ∙ met.child)))
 
     -- a search that has only what the look-up left, and where the move leads
     module _ (all : Bool) (row : Vec ℕ Global) (is_all : all ≡ all_after s.all child) (is_row : row.items ≡ child_more s.children.items child) where
@@ -438,7 +446,7 @@ module _ (i : Image) (s : Search) (at k : ℕ) (w : IsWithin i s at k) (move : k
         limit = refl;
         stays = subst (λ c. StaysBy c i u (slice_index_or s.moves.items k 0)) (ap (leads_back at) (sym met.child) ∙ sym e)
             (stays_so i s.limit s.found at w.inside (listed i s.all s.limit s.found (turns_before i s.found at k) (turns_from i s.found at k) w.come.goes) met.looked
-            (slice_index_or s.moves.items k 0) (record { from = at; item = slice_index_or s.moves.items k 0 }) mid.found met.looks);
+            (slice_index_or s.moves.items k 0) mid.found met.looks);
       }
 
     -- if there was room for where it leads, and if there was none
@@ -635,7 +643,82 @@ module _ (i : Image) (img : IsImage i) (s : Search) (h : HasCome i s (explored_t
   pub searched : IsExplored i s.limit s.found × (s.all ≡ true → IsAll i s.found) × (s.all ≡ false → IsAll i s.found → ⊥)
   searched = ends s.all h.goes
 
--- 9. What calls answer.
+-- 9. The machine with its configurations.
+
+module _ (i : Image) (list : List (List ℕ)) where
+  -- an index of the list is that of a configuration
+  pub can_put : (c : Configs) → HasKept i list c → (at : ℕ) → at < length list → (j : Image) × (v : ConfigsValue) × Stands j v c × (at < length v.kept)
+  can_put c h at inside = let long = length-map list (leads_to i) in (i, with_configs i list h.machine, h.stands, omega (arith, long, inside))
+
+  pub is_put : (c : Configs) (at : ℕ) → at < length list → (s : State) × (slice_get (map (leads_to i) list) at ≡ Some s) × Stands i (with_configs i list s) c → IsAt i list (slice_index_or list at []) c
+  is_put c at inside h =
+      let long = length-map list (leads_to i) in
+      let t = slice_index_or list at [] in
+      let two : Some h.0 ≡ Some (leads_to i t) =
+      sym h.1 ∙ get_inside (map (leads_to i) list) at (leads_to i t) (omega (arith, long, inside)) ∙ ap (λ (x : State). Some x) (map_at (leads_to i) list at [] (leads_to i t) inside) in
+      let one : h.0 ≡ leads_to i t = cc in
+      subst (λ s. Stands i (with_configs i list s) c) one h.2
+
+  pub is_kept : (t : List ℕ) (c : Configs) → IsAt i list t c → HasKept i list c
+  is_kept t c h = record { machine = leads_to i t; stands = h }
+
+-- a turn from a configuration is that after its schedule
+configuration_again : (s : State) → configuration (configuration s) ≡ configuration s
+unfolding configuration
+configuration_again s = ap (λ (core : Core). let u : State = record { core = core; memory = s.memory; cycles = 0 } in u) (uncounted_again s.core)
+
+module _ (i : Image) (t : List ℕ) (item : ℕ) where
+  alike : GoesOnAlike (leads_to i t) (run (start i) t) item
+  alike = (configurations_go_on (leads_to i t) (run (start i) t) (configuration_again (run (start i) t))).each item
+
+  pub turn_leads : (c : Configs) (list : List (List ℕ)) → Stands i (with_configs i list (configuration (after (leads_to i t) item))) c → IsAt i list (t ++ item ∷ []) c
+  turn_leads c list h = subst (λ s. Stands i (with_configs i list s) c) (alike.leads ∙ sym (leads_more i t item)) h
+
+  pub turn_made : (m : Made) → m.step ≡ (turn_of (leads_to i t) item).step → m.group ≡ group_of (slot_at (configuration (after (leads_to i t) item)).core m.step.slot) → IsMade i t item m
+  unfolding configuration after
+  turn_made m step group = record {
+    step = step ∙ alike.step;
+    group = group ∙ ap (λ (n : ℕ). group_of (slot_at (uncounted (turn_of (leads_to i t) item).core) n)) (ap (λ (x : Step). x.slot) step) ∙ group_bare (turn_of (leads_to i t) item) ∙ alike.group;
+  }
+
+-- what keeping leaves of a search
+module _ (i : Image) (s : Search) (o : Origin) (at : IsAt i s.found (led_by s.found o) s.configs) where
+  abbrev was : ConfigsValue
+  was = with_configs i s.found (leads_to i (led_by s.found o))
+
+  pub met_known : (c : Configs) (k : ℕ) (now : ConfigsValue) → Stands i now c → Keeps s.limit (Known k) was now → Met i o (Some k) s (record s { configs = c })
+  met_known c k now stands h = record {
+    looked = Known k;
+    looks = (h.0, refl);
+    kept = record { machine = leads_to i (led_by s.found o); stands = subst (λ v. Stands i v c) h.1 stands };
+    child = refl;
+    rest = refl;
+  }
+
+  pub met_full : (c : Configs) (now : ConfigsValue) → Stands i now c → Keeps s.limit Full was now → Met i o None s (record s { configs = c })
+  met_full c now stands h = record {
+    looked = Full;
+    looks = let long = length-map s.found (leads_to i) in let few = h.1 in (h.0, omega (arith, long, few), refl);
+    kept = record { machine = leads_to i (led_by s.found o); stands = subst (λ v. Stands i v c) h.2 stands };
+    child = refl;
+    rest = refl;
+  }
+
+  pub met_new : (c : Configs) (now : ConfigsValue) (found : List (List ℕ)) (k : ℕ) → Stands i now c → Keeps s.limit New was now → found ≡ s.found ++ led_by s.found o ∷ [] → k ≡ length s.found
+      → Met i o (Some k) s (record s { configs = c; found = found })
+  met_new c now found k stands h is at_end = record {
+    looked = New;
+    looks = let long = length-map s.found (leads_to i) in let few = h.1 in (h.0, omega (arith, long, few), is);
+    kept = record {
+      machine = leads_to i (led_by s.found o);
+      stands = subst (λ v. Stands i v c)
+          (h.2 ∙ ap (λ l. let v : ConfigsValue = record { kept = l; machine = leads_to i (led_by s.found o) } in v) (sym (map_push (leads_to i) s.found (led_by s.found o)) ∙ ap (map (leads_to i)) (sym is))) stands;
+    };
+    child = ap (λ (n : ℕ). Some n) at_end;
+    rest = refl;
+  }
+
+-- 10. What calls answer.
 
 pub both_ok : {A E : Type 0} (P Q : Type 0) (r : Result A E) → OnOk r P → OnOk r Q → OnOk r (P × Q)
 both_ok P Q (Ok x) p q = (p, q)

@@ -44,9 +44,11 @@ pub record HasKept (i : Image) (list : List (List ℕ)) (configs : code.Configs)
   pub machine : State
   pub stands : Stands i (with_configs i list machine) configs
 
--- what looking up the configuration of a schedule answers, and what it adds
-abbrev pub Looks : Image → ℕ → Looked → List ℕ → Origin → List (List ℕ) → List (List ℕ) → Type 0
-Looks i limit (Known at) t o old new = (slice_get (map (leads_to i) old) at ≡ Some (leads_to i t)) × (new ≡ old)
-Looks i limit New t o old new =
-    (Contains (map (leads_to i) old) (leads_to i t) → ⊥) × (length old < limit) × (new ≡ old ++ led_by old o ∷ [])
-Looks i limit Full t o old new = (Contains (map (leads_to i) old) (leads_to i t) → ⊥) × (limit ≤ length old) × (new ≡ old)
+-- what looking up the configuration of an origin's schedule answers, and what it adds
+abbrev pub Looks : Image → ℕ → Looked → Origin → List (List ℕ) → List (List ℕ) → Type 0
+Looks i limit (Known at) o old new = (slice_get (map (leads_to i) old) at ≡ Some (leads_to i (led_by old o))) × (new ≡ old)
+Looks i limit New o old new =
+    (Contains (map (leads_to i) old) (leads_to i (led_by old o)) → ⊥) × (length old < limit)
+    × (new ≡ old ++ led_by old o ∷ [])
+Looks i limit Full o old new =
+    (Contains (map (leads_to i) old) (leads_to i (led_by old o)) → ⊥) × (limit ≤ length old) × (new ≡ old)

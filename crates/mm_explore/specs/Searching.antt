@@ -151,10 +151,10 @@ index_of (Known at) old = Some at
 index_of New old = Some (length old)
 index_of Full old = None
 
--- a search looked up the configuration to which a schedule leads
-pub record Met (i : Image) (t : List ℕ) (o : Origin) (c : Option ℕ) (old new : Search) : Type 0 where
+-- a search looked up the configuration to which an origin leads
+pub record Met (i : Image) (o : Origin) (c : Option ℕ) (old new : Search) : Type 0 where
   pub looked : Looked
-  pub looks : Looks i old.limit looked t o old.found new.found
+  pub looks : Looks i old.limit looked o old.found new.found
   pub kept : HasKept i new.found new.configs
   pub child : c ≡ index_of looked old.found
   pub rest : new ≡ record old { configs = new.configs; found = new.found }

@@ -54,7 +54,8 @@ impl Found {
         requires { origin.from < length self.old }
         ensures { OnOk result (self.new ≡ self.old ++ led_by self.old origin ∷ []) }
     {
-        self.origins.push(origin)
+        self.origins.push(origin)?;
+        Ok(())
     }
 
     /// The schedule that leads to a configuration, with one item more if it is given.

@@ -11,7 +11,7 @@ ghost use Rattle.mm_model.specs.Limits.{state_limit};
 ghost use Rattle.mm_model.specs.State.{slot_at};
 ghost use Rattle.mm_model.specs.Trace.{group_in, group_of as group_in_option};
 ghost use Rattle.mm_explore.specs.{Findings.{are_none, explored_turns, turn_at}, Finds.Finds};
-ghost use Rattle.mm_explore.specs.FoundLists.{HasKept, IsAt};
+ghost use Rattle.mm_explore.specs.FoundLists.{HasKept, IsAt, led_by};
 ghost use Rattle.mm_explore.specs.MoveLists.{running_item, loaded_item, moves_in};
 ghost use Rattle.mm_explore.specs.Outcomes.{ending_of};
 ghost use Rattle.mm_explore.specs.Searching.{HasCome, IsBefore, IsWithin, AllStay, schedule_at};
@@ -152,12 +152,17 @@ impl Search {
         ensures before { IfOk result (λ s. IsBefore img.now s 0) }
         ensures limit { IfOk result (λ s. s.limit ≡ states) }
     {
+        let groups = list_groups(alloc, img.slots())?;
+        let configs = Configs::new(alloc, img)?;
+        let found = Found::new(alloc);
+        let findings = Findings::new(alloc)?;
+        let graph = Graph::new(alloc);
         Ok(Search {
-            groups: list_groups(alloc, img.slots())?,
-            configs: Configs::new(alloc, img)?,
-            found: Found::new(alloc),
-            findings: Findings::new(alloc)?,
-            graph: Graph::new(alloc),
+            groups,
+            configs,
+            found,
+            findings,
+            graph,
             moves: Vec::new(alloc),
             children: Vec::new(alloc),
             limit: states as usize,
@@ -311,11 +316,10 @@ impl Search {
 
     /// The index of the configuration of the machine, to which a move led. If it is new it is added, if there is room.
     fn meet(&mut self, img: &Image, origin: Origin) -> Result<Option<u32>, AllocError>
-        requires kept { HasKept img.now self.old.found self.old.configs }
+        requires at { IsAt img.now self.old.found (led_by self.old.found origin) self.old.configs }
         requires from { origin.from < length self.old.found }
         requires few { self.old.limit ≤ 2 ^ 31 }
-        ensures { IfOk result (λ child. (t : List ℕ) → IsAt img.now self.old.found t self.old.configs
-            → Met img.now t origin child self.old self.new) }
+        ensures { IfOk result (λ child. Met img.now origin child self.old self.new) }
     {
         match self.configs.keep(self.limit)? {
             Looked::Known(at) => Ok(Some(at)),

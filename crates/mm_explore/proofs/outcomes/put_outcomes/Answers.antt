@@ -7,7 +7,7 @@ use Rattle.mm_explore.proofs.outcomes.put_outcomes.Goals as goal
 pub outcome-requires-clause-end : goal.outcome-requires-clause-end
 outcome-requires-clause-end c =
     let i = c.args.img.now in
-    let list = c.args.found.now.list in
+    let list = c.args.found.now in
     let all = c.requires.ends.0 in
     let some = c.requires.ends.1 in
     let tally = c.in-Some.tally.now in
@@ -20,7 +20,7 @@ outcome-requires-clause-end c =
 pub loop-tally-preserved : goal.loop-tally-preserved
 loop-tally-preserved c = λ all some zip.
     let i = c.args.img.now in
-    let list = c.args.found.now.list in
+    let list = c.args.found.now in
     let tally = c.in-Some.tally.now in
     let now = rest_more deref_pair c.loop-tally.tally-iterator c.next.new.self c.next.result (c.in-Some.field-0-0, c.in-Some.tally) c.in-Some.is c.next.ensures.steps in
     left_more (λ e entry. IsKeptEnd i list all e entry.0.items entry.1) (λ e. outcome_found i (count_of all e.outcome) e.outcome e.schedule) some
@@ -32,7 +32,7 @@ loop-tally-preserved c = λ all some zip.
 pub returns : goal.returns
 returns c = λ all some zip.
     let i = c.args.img.now in
-    let list = c.args.found.now.list in
+    let list = c.args.found.now in
     let none = rest_all deref_pair c.loop-tally.tally-iterator c.next.new.self c.next.result c.in-None.is c.next.ensures.steps in
     left_none (λ e entry. IsKeptEnd i list all e entry.0.items entry.1) (λ e. outcome_found i (count_of all e.outcome) e.outcome e.schedule) some c.args.out.now.items c.loop-tally.out.items
     c.loop-tally.tally-iterator none (c.loop-tally.invariant all some zip)

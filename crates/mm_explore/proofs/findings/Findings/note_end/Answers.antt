@@ -1,5 +1,5 @@
 use Rattle.mm_explore.specs.Noting.{outcome_held}
-use Rattle.mm_explore.proofs.{HeldEnds.held_once, Notes.{both_ok, ended_next, room_is}, Putting.more_ok}
+use Rattle.mm_explore.proofs.{HeldEnds.held_once, Notes.{both_ok, ended_next, room_is}, Notes.more_ok}
 use Rattle.mm_explore.proofs.findings.Findings.note_end.Goals as goal
 
 pub count_end-requires : goal.count_end-requires

@@ -2,7 +2,7 @@ use Rattle.std.proofs.Common.{◌≡◌, ◌∙◌, ◌+◌, [], sym, ap, refl, 
 use Rattle.std.specs.{Prelude.{Some, slice_get}}
 use Rattle.mm_explore.specs.{Findings.{IsFinal, are_none}, Noting.{outcome_held, Noted, AreNoted}, Outcomes.{ending_of}, Searching.{IsBefore, node_schedule, turns_before, turns_from, AllStay}}
 use Rattle.mm_explore.specs.declared.{findings.Findings.Findings, search.Search.Search}
-use Rattle.mm_explore.proofs.{Notings.ended_skip, Putting.more_ok, HeldEnds.final_outcome}
+use Rattle.mm_explore.proofs.{Notings.ended_skip, Notes.more_ok, HeldEnds.final_outcome}
 use Rattle.mm_explore.proofs.Steps.{get_inside, final_so, both_ok, all_made, ended_few, ended_one, list_few, take_few}
 use Rattle.mm_explore.specs.declared.ends.End as code_end
 use Rattle.mm_explore.proofs.search.Search.expand.Goals as goal
@@ -22,7 +22,7 @@ returns-then-not-stay-clause-before c =
     let none = subst (λ u. IsFinal i u → ⊥) (sym c.in_ok-stay.ensures.schedule) stay in
     subst (λ x. IsBefore i x (c.args.at + 1)) (sym now)
     (subst (IsBefore i (record s { graph = g })) (ap (λ a. a + 1) at)
-    (all_made i s node w s.findings g w.come.noted (ended_skip i s.found.list (take node.at s.found.list) t s.findings w.come.ended none) kept))
+    (all_made i s node w s.findings g w.come.noted (ended_skip i s.found (take node.at s.found) t s.findings w.come.ended none) kept))
 
 pub note_end-requires : goal.note_end-requires
 note_end-requires c =
@@ -36,10 +36,10 @@ note_end-requires c =
     let now : c.keep_children.new.self ≡ record s { graph = g } = c.in_ok-keep_children.ensures.rest in
     let at = c.in_ok-node.ensures.at in
     let e = w.come.ended in
-    let list = s.found.list in
+    let list = s.found in
     let few = ended_few i list (take node.at list) s.findings e in
     let past = take_few node.at list in
-    let all = list_few i s.all s.found.limit list (turns_before i list node.at (length node.moves.items)) (turns_from i list node.at (length node.moves.items)) w.come.goes in
+    let all = list_few i s.all s.limit list (turns_before i list node.at (length node.moves.items)) (turns_from i list node.at (length node.moves.items)) w.come.goes in
     let room = w.come.room in
     record { room = (i, list, e.ends, subst (AreNoted i list e.ends) (sym (ap (λ (x : Search). x.findings) now)) e.noted, omega (arith, few, past, all, room)) }
 
@@ -55,7 +55,7 @@ returns-clause-before c =
     let now : c.keep_children.new.self ≡ record s { graph = g } = c.in_ok-keep_children.ensures.rest in
     let at = c.in_ok-node.ensures.at in
     let e = w.come.ended in
-    let list = s.found.list in
+    let list = s.found in
     let f : Findings = c.note_end.new.self in
     let stay = subst (λ b. AllStay b i (node_schedule c.args.self.now node) node.moves.items) c.if-not-stay.false c.in_ok-stay.ensures.stay in
     let final : IsFinal i t = subst (IsFinal i) (sym c.in_ok-stay.ensures.schedule) (final_so i (node_schedule c.args.self.now node) node.moves.items c.in_ok-node.ensures.node.moves stay) in

@@ -10,7 +10,7 @@ overflow_cast-origin c =
     let node = c.args.node.now in
     let i = c.args.img.now in
     let come = c.requires.within.come in
-    let few = list_few i s.all s.found.limit s.found.list (turns_before i s.found.list node.at c.args.k) (turns_from i s.found.list node.at c.args.k) come.goes in
+    let few = list_few i s.all s.limit s.found (turns_before i s.found node.at c.args.k) (turns_from i s.found node.at c.args.k) come.goes in
     let room = come.room in
     let inside = c.requires.within.is.inside in
     omega (arith, few, room, inside)
@@ -28,9 +28,9 @@ returns-in_ok-push-in-Some-clause-within c =
     let at : IsAtConfiguration i t c.put.new.self = c.in_ok-put.ensures.at t w.is.parts in
     let step = c.in_ok-step.ensures.step t at in
     let group = c.in_ok-step.ensures.group t at in
-    let noted = c.in_ok-note.ensures.noted i s.found.list (turns_before i s.found.list node.at c.args.k) x w.come.noted
-    (record { schedule = get_inside s.found.list node.at [] w.is.inside; item = refl }) step group in
-    let ended = ended_as i s.found.list (take node.at s.found.list) s.findings c.note.new.self (λ ends h. c.in_ok-note.ensures.ends i s.found.list ends h) w.come.ended in
+    let noted = c.in_ok-note.ensures.noted i s.found (turns_before i s.found node.at c.args.k) x w.come.noted
+    (record { schedule = get_inside s.found node.at [] w.is.inside; item = refl }) step group in
+    let ended = ended_as i s.found (take node.at s.found) s.findings c.note.new.self (λ ends h. c.in_ok-note.ensures.ends i s.found ends h) w.come.ended in
     (made_child i s node c.args.k w c.requires.inside c.turn.new.self m is (c.in_ok-step.ensures.at t at) c.meet.new.self c.note.new.self c.in_ok-child.field-0 noted ended c.in_ok-child.ensures c.in-Some.child c.in-Some.is c.push.new.self c.in_ok-push-in-Some.ensures.items).within
 
 pub returns-in_ok-push-in-Some-clause-schedule : goal.returns-in_ok-push-in-Some-clause-schedule
@@ -46,9 +46,9 @@ returns-in_ok-push-in-Some-clause-schedule c =
     let at : IsAtConfiguration i t c.put.new.self = c.in_ok-put.ensures.at t w.is.parts in
     let step = c.in_ok-step.ensures.step t at in
     let group = c.in_ok-step.ensures.group t at in
-    let noted = c.in_ok-note.ensures.noted i s.found.list (turns_before i s.found.list node.at c.args.k) x w.come.noted
-    (record { schedule = get_inside s.found.list node.at [] w.is.inside; item = refl }) step group in
-    let ended = ended_as i s.found.list (take node.at s.found.list) s.findings c.note.new.self (λ ends h. c.in_ok-note.ensures.ends i s.found.list ends h) w.come.ended in
+    let noted = c.in_ok-note.ensures.noted i s.found (turns_before i s.found node.at c.args.k) x w.come.noted
+    (record { schedule = get_inside s.found node.at [] w.is.inside; item = refl }) step group in
+    let ended = ended_as i s.found (take node.at s.found) s.findings c.note.new.self (λ ends h. c.in_ok-note.ensures.ends i s.found ends h) w.come.ended in
     (made_child i s node c.args.k w c.requires.inside c.turn.new.self m is (c.in_ok-step.ensures.at t at) c.meet.new.self c.note.new.self c.in_ok-child.field-0 noted ended c.in_ok-child.ensures c.in-Some.child c.in-Some.is c.push.new.self c.in_ok-push-in-Some.ensures.items).schedule
 
 pub returns-in_ok-push-in-Some-clause-stays : goal.returns-in_ok-push-in-Some-clause-stays
@@ -76,9 +76,9 @@ returns-in-None-clause-within c =
     let at : IsAtConfiguration i t c.put.new.self = c.in_ok-put.ensures.at t w.is.parts in
     let step = c.in_ok-step.ensures.step t at in
     let group = c.in_ok-step.ensures.group t at in
-    let noted = c.in_ok-note.ensures.noted i s.found.list (turns_before i s.found.list node.at c.args.k) x w.come.noted
-    (record { schedule = get_inside s.found.list node.at [] w.is.inside; item = refl }) step group in
-    let ended = ended_as i s.found.list (take node.at s.found.list) s.findings c.note.new.self (λ ends h. c.in_ok-note.ensures.ends i s.found.list ends h) w.come.ended in
+    let noted = c.in_ok-note.ensures.noted i s.found (turns_before i s.found node.at c.args.k) x w.come.noted
+    (record { schedule = get_inside s.found node.at [] w.is.inside; item = refl }) step group in
+    let ended = ended_as i s.found (take node.at s.found) s.findings c.note.new.self (λ ends h. c.in_ok-note.ensures.ends i s.found ends h) w.come.ended in
     (made_none i s node c.args.k w c.requires.inside c.turn.new.self m is (c.in_ok-step.ensures.at t at) c.meet.new.self c.note.new.self c.in_ok-child.field-0 noted ended c.in_ok-child.ensures c.in-None.is).within
 
 pub returns-in-None-clause-stays : goal.returns-in-None-clause-stays

@@ -6,6 +6,6 @@ abbrev pub invariant-loop-k : goal.invariant-loop-k
 invariant-loop-k l = record {
   within : IsWithin l.img l.self l.node l.k;
   schedule : node_schedule l.self l.node ≡ node_schedule l.fn.self l.node;
-  limit : l.self.found.limit ≡ l.fn.self.found.limit;
+  limit : l.self.limit ≡ l.fn.self.limit;
   stay : AllStay l.stay l.img (node_schedule l.fn.self l.node) (take l.k l.node.moves.items);
 }

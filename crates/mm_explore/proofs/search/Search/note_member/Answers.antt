@@ -2,7 +2,7 @@ use Rattle.std.proofs.Common.{◌≡◌, ◌+◌, take, sym, subst}
 use Rattle.std.{proofs.lemmas.Bool.both_ways, specs.List.AllByRecursion}
 use Rattle.mm_endless.specs.Graphs.{children}
 use Rattle.mm_explore.specs.Searching.{AreSetsSeen}
-use Rattle.mm_explore.proofs.{BusySets.{member_none, member_final, member_first, member_other, first_low}, Putting.more_ok}
+use Rattle.mm_explore.proofs.{BusySets.{member_none, member_final, member_first, member_other, first_low}, Notes.more_ok}
 use Rattle.mm_explore.proofs.search.Search.note_member.Goals as goal
 
 pub changed_slots-requires-clause-one : goal.changed_slots-requires-clause-one
@@ -18,7 +18,7 @@ returns-in-None c =
 pub returns-in_ok-slots-in-Some : goal.returns-in_ok-slots-in-Some
 returns-in_ok-slots-in-Some c =
     let r = c.requires in
-    let list = c.args.self.now.found.list in
+    let list = c.args.self.now.found in
     more_ok c.add.result
     (λ is. subst (AreSetsSeen c.args.img.now list (take (c.args.at + 1) list)) (sym is)
     (member_other c.args.img.now c.args.self.now r.come r.all c.args.at r.inside c.args.sets.now r.sets c.args.busy.now.entries r.seen c.in-Some.first c.in-Some.ensures
@@ -36,7 +36,7 @@ pub returns-in-Some-3 : goal.returns-in-Some-3
 returns-in-Some-3 c =
     let r = c.requires in
     let g = c.args.self.now.graph in
-    let list = c.args.self.now.found.list in
+    let list = c.args.self.now.found in
     let f = c.in-Some.first in
     let turns = λ (stay : AllByRecursion (λ child. child ≡ f) (children g c.args.at)).
     both_ways c.stays.result c.if-stays.false (c.stays.ensures.1

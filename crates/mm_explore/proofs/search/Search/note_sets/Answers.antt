@@ -15,19 +15,19 @@ loop-at-init c =
     record {
       rest = refl;
       noted = c.requires.come.noted;
-      left = subst (SetsLeft i s.found.list s.findings) (sym (c.into_iter-at-iterator.ensures.into_iter_gives ∙ c.iter-at-items.ensures.rest))
-          (sets_begin i s.found.list s.findings c.args.busy.now.entries c.requires.come.ended c.requires.sets);
+      left = subst (SetsLeft i s.found s.findings) (sym (c.into_iter-at-iterator.ensures.into_iter_gives ∙ c.iter-at-items.ensures.rest))
+          (sets_begin i s.found s.findings c.args.busy.now.entries c.requires.come.ended c.requires.sets);
     }
 
 pub numbers-requires : goal.numbers-requires
 numbers-requires c =
     let i = c.args.img.now in
-    let list = c.args.self.now.found.list in
+    let list = c.args.self.now.found in
     let l = c.loop-at in
     let now = rest_more deref_pair l.at-iterator c.next.new.self c.next.result (c.in-Some.at, c.in-Some.slots) c.in-Some.is c.next.ensures.steps in
     let here = next_here i list l.self.findings l.at-iterator l.invariant.left (c.in-Some.at.now, c.in-Some.slots.now) c.next.new.self now in
     let low = slice_get_within list c.in-Some.at.now _ here in
-    subst (λ (x : Search). c.in-Some.at.now < length x.found.list) (sym l.invariant.rest) low
+    subst (λ (x : Search). c.in-Some.at.now < length x.found) (sym l.invariant.rest) low
 
 pub note_end-requires : goal.note_end-requires
 note_end-requires c =
@@ -35,15 +35,15 @@ note_end-requires c =
     let s = c.args.self.now in
     let l = c.loop-at in
     let h = l.invariant.left in
-    let few = ends_few i s.found.list l.self.findings l.at-iterator h in
-    let all = list_few i s.all s.found.limit s.found.list (explored_turns i s.found.list) [] c.requires.come.goes in
+    let few = ends_few i s.found l.self.findings l.at-iterator h in
+    let all = list_few i s.all s.limit s.found (explored_turns i s.found) [] c.requires.come.goes in
     let room = c.requires.come.room in
-    record { room = (i, s.found.list, h.ends, h.noted, omega (arith, few, all, room)) }
+    record { room = (i, s.found, h.ends, h.noted, omega (arith, few, all, room)) }
 
 pub loop-at-preserved : goal.loop-at-preserved
 loop-at-preserved c =
     let i = c.args.img.now in
-    let list = c.args.self.now.found.list in
+    let list = c.args.self.now.found in
     let l = c.loop-at in
     let h = l.invariant.left in
     let f = l.self.findings in
@@ -54,7 +54,7 @@ loop-at-preserved c =
     let now = rest_more deref_pair l.at-iterator rest c.next.result (c.in-Some.at, c.in-Some.slots) c.in-Some.is c.next.ensures.steps in
     let t = next_at i list f l.at-iterator h (at, slots) rest now in
     let here : slice_get list at ≡ Some t = next_here i list f l.at-iterator h (at, slots) rest now in
-    let there = subst (λ (x : Search). slice_get x.found.list at ≡ Some t) (sym l.invariant.rest) here in
+    let there = subst (λ (x : Search). slice_get x.found at ≡ Some t) (sym l.invariant.rest) here in
     let held = subst (λ (x : Search). Holds i x.found) (sym l.invariant.rest) c.requires.come.held in
     let image = c.requires.come.image in
     let p = c.in_ok-parts.parts in
@@ -71,5 +71,5 @@ returns-clause-ends c =
     let i = c.args.img.now in
     let l = c.loop-at in
     let none = rest_all deref_pair l.at-iterator c.next.new.self c.next.result c.in-None.is c.next.ensures.steps in
-    sets_end i c.args.self.now.found.list l.self.findings l.at-iterator l.invariant.left l.self
-    (ap (λ (x : Search). x.all) l.invariant.rest ∙ c.requires.all) (ap (λ (x : Search). x.found.list) l.invariant.rest) refl none
+    sets_end i c.args.self.now.found l.self.findings l.at-iterator l.invariant.left l.self
+    (ap (λ (x : Search). x.all) l.invariant.rest ∙ c.requires.all) (ap (λ (x : Search). x.found) l.invariant.rest) refl none

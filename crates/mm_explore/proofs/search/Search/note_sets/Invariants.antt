@@ -7,6 +7,6 @@ use Rattle.mm_explore.proofs.search.Search.note_sets.Given as goal
 abbrev pub invariant-loop-at : goal.invariant-loop-at
 invariant-loop-at l = record {
   rest : l.self ≡ record l.fn.self { findings = l.self.findings };
-  noted : Noted l.img l.fn.self.found.list (explored_turns l.img l.fn.self.found.list) l.self.findings;
-  left : SetsLeft l.img l.fn.self.found.list l.self.findings l.at-iterator;
+  noted : Noted l.img l.fn.self.found (explored_turns l.img l.fn.self.found) l.self.findings;
+  left : SetsLeft l.img l.fn.self.found l.self.findings l.at-iterator;
 }
