@@ -8,4 +8,5 @@ invariant_of-self c =
     let rows = c.self.inside.rows.items in
     let within : c.args.at < length rows = omega (arith, ap (λ (k : Core). length k.rows) c.self.view_is) in
     let here = slot_there rows c.args.at within _ _ (c.row.view_is ∙ c.index_mut-row.ensures.value) in
-    known_kept rows c.args.at within _ (ap (λ (s : Slot). s.number) here) _ _ c.self.invariant (ap (λ (s : Slot). s.state) here)
+    known_kept rows c.args.at within _ (ap (λ (s : Slot). s.number) c.slot.view_is ∙ ap (λ (s : Slot). s.number) here) _ _ c.self.invariant
+    (ap (λ (s : Slot). s.state) c.slot.view_is ∙ ap (λ (s : Slot). s.state) here)
