@@ -5,21 +5,21 @@ use Rattle.std.proofs.{Common.{append_assoc, append-nil, length-append}, Math.De
 use Rattle.std.specs.Prelude.{◌==◌, Contains, Some, slice_get, Result, Ok, Err, IfOk, OnOk}
 use Rattle.std.specs.List.{AllByRecursion, AllZip, flat_map}
 use Rattle.mm_config.specs.declared.configs.{Configs.Configs, Looked.{Looked, TheVariants.{Known, New, Full}}}
-use Rattle.mm_config.specs.{Configurations.{configuration, uncounted}, Keeping.Stands, Machines.{Configs as ConfigsValue, Keeps}}
+use Rattle.mm_config.specs.{Configurations.{configuration, uncounted}, Keeping.Stands, Machines.{Configs as ConfigsValue, Keeps, AreApart}}
 use Rattle.mm_model.proofs.CoreRows.{each_push}
-use Rattle.mm_model.specs.{declared.step.Step.Step, Limits.state_limit, Image.{Image, start}, Report.groups_of, Spelling.IsImage}
+use Rattle.mm_model.specs.{declared.step.Step.Step, Fits.slots_of, Flags.flags, Limits.state_limit, Image.{Image, start}, Report.groups_of, Spelling.IsImage}
 use Rattle.mm_model.specs.{State.{Core, State, slot_at}, Run.{after, run, turn_of}, Trace.group_of}
 use Rattle.mm_span.{specs.Pairs.EachPair, proofs.Members.{in_map, map_in, all_at}}
 use Rattle.mm_explore.proofs.AllFound.{at_index}
 use Rattle.mm_explore.proofs.{Notings.{noted_more, ended_more, ended_skip, children_more, graph_more}, Spelled.map_push}
 use Rattle.mm_explore.proofs.Searches.{IsNew, search_begins, search_known, search_new, search_full, search_ends}
-use Rattle.mm_explore.proofs.{FirstOnes.index_one, Orders.before_cases, Selections.select_more}
+use Rattle.mm_explore.proofs.{HeldEnds.slots_count, FirstOnes.index_one, Orders.before_cases, Selections.select_more}
 use Rattle.mm_explore.specs.declared.{findings.Findings.Findings, found.Origin.Origin, search.{Made.Made, Search.Search}}
 use Rattle.mm_explore.specs.Laws.{GoesOnAlike}
 use Rattle.mm_explore.proofs.{Coverings.leads_more, Goings.{configurations_go_on, group_bare}, Uncounted.uncounted_again}
 use Rattle.mm_explore.specs.{Moves.moves, Explored.{leads_to, IsLeast, IsExplored, IsAll}, Schedules.Before}
 use Rattle.mm_explore.specs.Findings.{Extension, extended, extensions, explored_turns, IsFinal, are_none}
-use Rattle.mm_explore.specs.{FoundLists.{led_by, with_configs, IsAt, HasKept, Looks}, Noting.{Noted, AreNoted}, Outcomes.{Outcome, End, IsOutcome, Selects}}
+use Rattle.mm_explore.specs.{FoundLists.{led_by, with_configs, IsAt, HasKept, Looks}, Noting.{Noted, AreNoted}, Outcomes.{Outcome, End, IsOutcome, Selects, slots_at}}
 use Rattle.mm_explore.specs.Searching.{GoesOn, IsFull, IsChild, IsGraph, Ended, HasCome, IsBefore, IsWithin, schedule_at, turns_before}
 use Rattle.mm_explore.specs.Searching.{turns_from, StaysBy, AllStay, index_of, IsMade, Makes, Met, IsNotedIfFinal}
 
@@ -658,6 +658,22 @@ module _ (i : Image) (list : List (List ℕ)) where
       sym h.1 ∙ get_inside (map (leads_to i) list) at (leads_to i t) (omega (arith, long, inside)) ∙ ap (λ (x : State). Some x) (map_at (leads_to i) list at [] (leads_to i t) inside) in
       let one : h.0 ≡ leads_to i t = cc in
       subst (λ s. Stands i (with_configs i list s) c) one h.2
+
+  -- two indices are
+  pub can_differ : (c : Configs) → HasKept i list c → (a b : ℕ) → a < length list → b < length list
+      → (j : Image) × (v : ConfigsValue) × Stands j v c × (a < length v.kept) × (b < length v.kept)
+  can_differ c h a b low inside = let long = length-map list (leads_to i) in (i, with_configs i list h.machine, h.stands, omega (arith, long, low), omega (arith, long, inside))
+
+  -- where the slots of two configurations differ
+  pub are_apart : IsImage i → (a b : ℕ) → a < length list → b < length list → (machine : State) (mask : ℕ)
+      → AreApart (flags (length i.slots) mask) (slots_of (slice_index_or (map (leads_to i) list) a machine).core) (slots_of (slice_index_or (map (leads_to i) list) b machine).core)
+      → let t = slice_index_or list a [] in AreApart (flags (length (slots_at i t)) mask) (slots_at i t) (slots_at i (slice_index_or list b []))
+  are_apart img a b low inside machine mask h =
+      let t = slice_index_or list a [] in
+      let u = slice_index_or list b [] in
+      subst (λ n. AreApart (flags n mask) (slots_at i t) (slots_at i u)) (sym (slots_count i img t))
+      (subst (λ (x : State). AreApart (flags (length i.slots) mask) (slots_of x.core) (slots_at i u)) (map_at (leads_to i) list a [] machine low)
+      (subst (λ (x : State). AreApart (flags (length i.slots) mask) (slots_of (slice_index_or (map (leads_to i) list) a machine).core) (slots_of x.core)) (map_at (leads_to i) list b [] machine inside) h))
 
   pub is_kept : (t : List ℕ) (c : Configs) → IsAt i list t c → HasKept i list c
   is_kept t c h = record { machine = leads_to i t; stands = h }

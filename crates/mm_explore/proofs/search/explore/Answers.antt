@@ -1,5 +1,5 @@
 use Rattle.std.proofs.Common.{◌≡◌, ◌∙◌, true, false, sym, ap, subst}
-use Rattle.mm_explore.specs.{Explored.{IsExplored, IsAll}, Findings.explored_turns, Finds.Finds, FoundLists.{Holds}, Noting.Noted}
+use Rattle.mm_explore.specs.{Explored.{IsExplored, IsAll}, Findings.explored_turns, Finds.Finds, FoundLists.{HasKept}, Noting.Noted}
 use Rattle.mm_explore.specs.declared.search.Search.{Search}
 use Rattle.mm_explore.proofs.Steps.{searched}
 use Rattle.mm_explore.proofs.search.explore.Goals as goal
@@ -8,9 +8,9 @@ pub explored-requires-clause-groups : goal.explored-requires-clause-groups
 explored-requires-clause-groups c =
     c.deref.ensures.value ∙ ap (λ (x : Search). x.groups.items) c.in_ok-note_endless.ensures.rest ∙ c.in_ok-run.ensures.come.groups
 
-pub explored-requires-clause-held : goal.explored-requires-clause-held
-explored-requires-clause-held c =
-    subst (λ (x : Search). Holds c.args.img.now x.found) (sym c.in_ok-note_endless.ensures.rest) c.in_ok-run.ensures.come.held
+pub explored-requires-clause-kept : goal.explored-requires-clause-kept
+explored-requires-clause-kept c =
+    subst (λ (x : Search). HasKept c.args.img.now x.found c.note_endless.new.self.configs) (sym c.in_ok-note_endless.ensures.rest) c.in_ok-note_endless.ensures.kept
 
 pub explored-requires-clause-noted : goal.explored-requires-clause-noted
 explored-requires-clause-noted c =

@@ -28,7 +28,7 @@ returns c = λ limit ends explored is_all is_more noted are.
     record {
       list = list;
       explored = explored;
-      count = c.len.ensures.count;
+      count = c.len.ensures;
       all = is_all;
       more = is_more;
       groups = subst (AllZip (IsGroupOf i list) (groups_of (start i).core)) (sym found_are) (subst (λ l. AllZip (IsGroupOf i list) l gs) c.requires.groups groups);

@@ -21,5 +21,5 @@ returns c =
     let all = (searched i c.requires.come.image s c.requires.come).1 c.requires.all in
     let low = c.loop-at.auto.at-end in
     let high = c.loop-at-test.false in
-    let end = c.len-at-end.ensures.count in
+    let end = c.len-at-end.ensures in
     sets_busy i s.found all c.loop-at.at (omega (arith, low, high, end)) c.loop-at.busy.entries c.loop-at.invariant

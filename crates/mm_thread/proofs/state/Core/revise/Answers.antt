@@ -29,7 +29,7 @@ pub extend_outputs-requires-clause-short : goal.extend_outputs-requires-clause-s
 extend_outputs-requires-clause-short c =
     subst (λ xs. AllByRecursion (λ (x : Extension). (x.group < 64) × (x.kept + length x.bytes ≤ 65536)) (map extension xs)) (sym c.deref-2.ensures.value) c.requires.outputs
 
-revision : (c : goal.After-self-1) → c.extend_outputs.new.tables
+revision : (c : goal.After-extend_outputs) → c.extend_outputs.new.tables
     ≡ revised c.args.self.now (flags (length c.args.slots.now) c.args.changed) c.args.slots.now (queues_in c.args.revision.now) (outputs_in c.args.revision.now)
 unfolding revised
 revision c =
