@@ -1,5 +1,5 @@
 -- What stays of names when more pairs are kept, trees with another leaf, and that trees with the same leaves are the same.
-use Rattle.std.proofs.Common.{◌≡◌, ℕ, zero, suc, ◌+◌, ◌-◌, ◌*◌, ◌^◌, ◌<◌, ◌≤◌, List, [], ◌∷◌, ◌++◌, length, take, drop, slice_index_or, slice_set}
+use Rattle.std.proofs.Common.{◌≡◌, ℕ, zero, suc, ◌-◌, ◌^◌, ◌<◌, ◌≤◌, List, ◌++◌, length, take, drop, slice_index_or, slice_set}
 use Rattle.std.proofs.Common.{refl, sym, ap, ◌∙◌, subst, arith, length-append}
 use Rattle.std.proofs.lemmas.List.{get_or-take, get_or_append_left, get_or-append_right, set-append_left, set-append_right, length-take}
 use Rattle.std.proofs.Math.{Nat.pow-suc, Seq.{take-append_seam, drop-append_seam}}
@@ -65,8 +65,8 @@ trees_apart pairs apart (suc depth) a b ta tb e =
     let left : xs ≡ us = sym (front_of (2 ^ depth) xs ys lx) ∙ ap (take (2 ^ depth)) e ∙ front_of (2 ^ depth) us vs lu in
     let right : ys ≡ vs = sym (back_of (2 ^ depth) xs ys lx) ∙ ap (drop (2 ^ depth)) e ∙ back_of (2 ^ depth) us vs lu in
     apart a b ta.0 tb.0 (same_pair (pair_of pairs a) (pair_of pairs b)
-        (trees_apart pairs apart depth (pair_of pairs a).0 (pair_of pairs b).0 ta.1 tb.1 left)
-        (trees_apart pairs apart depth (pair_of pairs a).1 (pair_of pairs b).1 ta.2 tb.2 right))
+    (trees_apart pairs apart depth (pair_of pairs a).0 (pair_of pairs b).0 ta.1 tb.1 left)
+    (trees_apart pairs apart depth (pair_of pairs a).1 (pair_of pairs b).1 ta.2 tb.2 right))
 
 -- 3. A tree of two.
 
@@ -106,7 +106,7 @@ module _ (old : List (ℕ × ℕ)) (depth d tree place : ℕ) (parts : ℕ × �
   pub leaf_right : 2 ^ d ≤ place → slice_index_or (leaves old d parts.1) (place - 2 ^ d) 0 ≡ slice_index_or (leaves old depth tree) place 0
   leaf_right high =
       sym (ap (λ l. slice_index_or l place 0) both
-        ∙ get_or-append_right (leaves old d parts.0) (leaves old d parts.1) (2 ^ d) place 0 (length_leaves old d parts.0) high)
+      ∙ get_or-append_right (leaves old d parts.0) (leaves old d parts.1) (2 ^ d) place 0 (length_leaves old d parts.0) high)
 
   module _ (mid new : List (ℕ × ℕ)) (leaf t : ℕ) (first : HasGrown old mid) (later : HasGrown mid new) (h : IsTree old depth tree) where
     -- another leaf in the left half

@@ -1,6 +1,6 @@
 use Rattle.std.proofs.Common.{◌≡◌, ◌-◌, ◌++◌, length}
-use Rattle.mm_explore.specs.Kept.{loads_from}
-use Rattle.mm_explore.proofs.slot_form.take_loads.Given as goal
+use Rattle.mm_config.specs.Forms.{loads_from}
+use Rattle.mm_config.proofs.slot_form.take_loads.Given as goal
 
 abbrev pub invariant-loop-k : goal.invariant-loop-k
 invariant-loop-k l = record {

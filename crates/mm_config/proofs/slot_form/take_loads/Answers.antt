@@ -1,6 +1,6 @@
 use Rattle.std.proofs.Common.{◌∙◌, arith}
-use Rattle.mm_explore.proofs.Taking.{loads_more, rest_more}
-use Rattle.mm_explore.proofs.slot_form.take_loads.Goals as goal
+use Rattle.mm_config.proofs.Taking.{loads_more, rest_more}
+use Rattle.mm_config.proofs.slot_form.take_loads.Goals as goal
 
 pub loop-k-preserved : goal.loop-k-preserved
 loop-k-preserved c =

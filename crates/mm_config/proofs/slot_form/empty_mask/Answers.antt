@@ -1,6 +1,6 @@
 use Rattle.std.proofs.Common.{◌<◌, ◌^◌, sym, ap, ◌∙◌, arith}
 use Rattle.mm_model.{specs.{Slot.Slot, Flags.number_of_flags}, proofs.Bytes.Bitmaps.number_of_flags-flags}
-use Rattle.mm_explore.proofs.slot_form.empty_mask.Goals as goal
+use Rattle.mm_config.proofs.slot_form.empty_mask.Goals as goal
 
 pub returns-clause-value : goal.returns-clause-value
 returns-clause-value c =

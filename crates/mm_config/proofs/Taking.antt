@@ -4,8 +4,8 @@ use Rattle.std.proofs.{Common.{ap, ◌∙◌, arith, append_assoc, ◌≤◌}, l
 use Rattle.std.specs.Prelude.{◌==◌}
 use Rattle.mm_word.specs.{declared.word.{Word.Word, Cell.Cell}, Pointer.Pointer}
 use Rattle.mm_model.specs.{declared.slot.{Pending.Pending, SlotState.SlotState}, Slot.Slot, Flags.flags}
-use Rattle.mm_explore.specs.Kept.{first_number, behind, word_from, words_from, register_flags, loads_from, few_loads}
-use Rattle.mm_explore.specs.Kept.{ip_of, state_at, slot_from, cell_of, cells_from}
+use Rattle.mm_config.specs.Forms.{first_number, behind, word_from, words_from, register_flags, loads_from, few_loads}
+use Rattle.mm_config.specs.Forms.{ip_of, state_at, slot_from}
 
 one_left : (count k : ℕ) → k < count → count - k ≡ suc (count - (k + 1))
 one_left count k lt = omega (arith, lt)
@@ -67,7 +67,7 @@ module _ (base : Slot) where
   slot_of_numbers head masks bits ns =
       slot_of_parts head (read_words masks ns).0 (ip_of base.ip bits) (state_at (head % 32)) (loads_from (few_loads (head / 64 % 32)) (read_words masks ns).1).0
 
-  slot_opened : (ns : List ℕ) → slot_of_numbers (first_number ns) (first_number (behind ns)) (first_number (behind (behind ns))) (behind (behind (behind ns))) ≡ (slot_from base ns).0
+  slot_opened : (ns : List ℕ) → slot_of_numbers (first_number ns) (first_number (behind ns)) (first_number (behind (behind ns))) (behind (behind (behind ns))) ≡ slot_from base ns
   unfolding slot_from
   slot_opened ns = refl
 
@@ -75,7 +75,7 @@ module _ (base : Slot) where
       → head ≡ first_number ns → n1 ≡ behind ns → masks ≡ first_number n1 → n2 ≡ behind n1 → bits ≡ first_number n2 → n3 ≡ behind n2
       → regs ≡ (read_words masks n3).0 → n4 ≡ (read_words masks n3).1 → ip ≡ ip_of base.ip bits → state ≡ state_at (head % 32)
       → count ≡ few_loads (head / 64 % 32) → loads ≡ (loads_from count n4).0
-      → slot_of_parts head regs ip state loads ≡ (slot_from base ns).0
+      → slot_of_parts head regs ip state loads ≡ slot_from base ns
   slot_taken ns n1 n2 n3 n4 head masks bits count regs ip state loads h b1 m b2 i b3 words rest is_ip is_state few is_loads =
       let same_loads : loads ≡ (loads_from (few_loads (head / 64 % 32)) (read_words masks n3).1).0 = is_loads ∙ (λ j. (loads_from (few j) (rest j)).0) in
       let same_masks : masks ≡ first_number (behind ns) = m ∙ ap first_number b1 in
@@ -85,35 +85,3 @@ module _ (base : Slot) where
       (λ j. slot_of_parts head (words j) (is_ip j) (is_state j) (same_loads j))
       ∙ (λ j. slot_of_numbers (h j) (same_masks j) (same_bits j) (three j))
       ∙ slot_opened ns
-
--- Elements of any kind.
-module _ {A : Type 0} (one : List ℕ → A × List ℕ) (all : ℕ → List ℕ → List A × List ℕ)
-    (step : (n : ℕ) (ns : List ℕ) → all (suc n) ns ≡ ((one ns).0 ∷ (all n (one ns).1).0, (all n (one ns).1).1))
-    (count k : ℕ) (lt : k < count) (ns later : List ℕ) (rest : later ≡ (one ns).1) where
-  all_next : all (count - k) ns ≡ ((one ns).0 ∷ (all (count - (k + 1)) later).0, (all (count - (k + 1)) later).1)
-  all_next =
-      ap (λ n. all n ns) (one_left count k lt) ∙ step (count - (k + 1)) ns
-      ∙ ap (λ l. let made : List A × List ℕ = ((one ns).0 ∷ (all (count - (k + 1)) l).0, (all (count - (k + 1)) l).1) in made) (sym rest)
-
-  pub items_more : (items more : List A) (x : A) → x ≡ (one ns).0 → more ≡ items ++ x ∷ [] → more ++ (all (count - (k + 1)) later).0 ≡ items ++ (all (count - k) ns).0
-  items_more items more x same is =
-      let tail = (all (count - (k + 1)) later).0 in
-      ap (λ l. l ++ tail) is ∙ append_assoc items (x ∷ []) tail ∙ ap (λ y. items ++ y ∷ tail) same
-      ∙ ap (λ (r : List A × List ℕ). items ++ r.0) (sym all_next)
-
-  pub items_rest : (all (count - (k + 1)) later).1 ≡ (all (count - k) ns).1
-  items_rest = ap (λ (r : List A × List ℕ). r.1) (sym all_next)
-
--- Cells.
-two_left : (ns : List ℕ) → 2 ≤ length ns → cells_from ns ≡ cell_of (first_number ns) (first_number (behind ns)) ∷ cells_from (behind (behind ns))
-two_left [] le = absurd (omega (arith, le))
-two_left (a ∷ []) le = absurd (omega (arith, le))
-two_left (a ∷ b ∷ ns) le = refl
-
-pub cells_more : (ns later : List ℕ) (head bits : ℕ) (items more : List (ℕ × Cell)) (x : ℕ × Cell) → 2 ≤ length ns
-    → head ≡ first_number ns → bits ≡ first_number (behind ns) → later ≡ behind (behind ns)
-    → x ≡ cell_of head bits → more ≡ items ++ x ∷ [] → more ++ cells_from later ≡ items ++ cells_from ns
-cells_more ns later head bits items more x le h b rest is pushed =
-    ap (λ l. l ++ cells_from later) pushed ∙ append_assoc items (x ∷ []) (cells_from later)
-    ∙ (λ j. items ++ (is ∙ (λ k. cell_of (h k) (b k))) j ∷ cells_from (rest j))
-    ∙ ap (λ l. items ++ l) (sym (two_left ns le))

@@ -7,8 +7,8 @@ use Rattle.mm_model.specs.{declared.slot.Pending.Pending, Effect.same_word, Flag
 use Rattle.mm_word.specs.{declared.word.Word.{Word, TheVariants.{Int, Ptr}}, Perm.can_fetch}
 use Rattle.mm_word.specs.{Pointer.{Pointer, IsWellFormed, pointer_of, bits_of}, Word.{IsWord, word_bits, is_pointer}}
 use Rattle.mm_word.proofs.Packing.{pointer_of-bits_of}
-use Rattle.mm_explore.specs.Kept.{word_of, word_form, word_from, changed_flags, changed_bits, words_from, load_form}
-use Rattle.mm_explore.specs.Kept.{loads_from, ip_of}
+use Rattle.mm_config.specs.Forms.{word_of, word_form, word_from, changed_flags, changed_bits, words_from, load_form}
+use Rattle.mm_config.specs.Forms.{loads_from, ip_of}
 
 -- 1. Flags.
 
