@@ -3,7 +3,7 @@ use Rattle.std.proofs.Common.{◌≡◌, ℕ, zero, suc, ◌-◌, ◌^◌, ◌<�
 use Rattle.std.proofs.Common.{refl, sym, ap, ◌∙◌, subst, arith, length-append}
 use Rattle.std.proofs.lemmas.List.{get_or-take, get_or_append_left, get_or-append_right, set-append_left, set-append_right, length-take}
 use Rattle.std.proofs.Math.{Nat.pow-suc, Seq.{take-append_seam, drop-append_seam}}
-use Rattle.mm_pairs.specs.Trees.{pair_of, leaves, IsTree, HasGrown, IsNameOf, HasLeaves, PairsAreApart, TreesAreApart}
+use Rattle.mm_pairs.specs.{Named.{HasGrown, HaveOneName, IsNameOf}, Trees.{pair_of, leaves, IsTree, HasLeaves, TreesAreApart}}
 
 -- 1. What stays.
 
@@ -53,7 +53,7 @@ front_of n xs ys e = ap (λ k. take k (xs ++ ys)) (sym e) ∙ take-append_seam x
 back_of : (n : ℕ) (xs ys : List ℕ) → length xs ≡ n → drop n (xs ++ ys) ≡ ys
 back_of n xs ys e = ap (λ k. drop k (xs ++ ys)) (sym e) ∙ drop-append_seam xs ys
 
-pub trees_apart : (pairs : List (ℕ × ℕ)) → PairsAreApart pairs → TreesAreApart pairs
+pub trees_apart : (pairs : List (ℕ × ℕ)) → HaveOneName (0, 0) pairs → TreesAreApart pairs
 trees_apart pairs apart zero a b ta tb e = ap (λ l. slice_index_or l 0 0) e
 trees_apart pairs apart (suc depth) a b ta tb e =
     let xs = leaves pairs depth (pair_of pairs a).0 in
@@ -72,10 +72,10 @@ trees_apart pairs apart (suc depth) a b ta tb e =
 
 -- two trees, one of which was there before, joined
 joined : (mid new : List (ℕ × ℕ)) (depth left right t : ℕ) (xs ys : List ℕ) → HasGrown mid new → HasLeaves mid depth left xs
-    → HasLeaves mid depth right ys → IsNameOf new t (left, right) → HasLeaves new (suc depth) t (xs ++ ys)
+    → HasLeaves mid depth right ys → IsNameOf (0, 0) new t (left, right) → HasLeaves new (suc depth) t (xs ++ ys)
 joined mid new depth left right t xs ys grown l r name = record {
   inner = (
-    name.kept,
+    name.within,
     subst (λ (p : ℕ × ℕ). IsTree new depth p.0) (sym name.is) (tree_stays mid new grown depth left l.inner),
     subst (λ (p : ℕ × ℕ). IsTree new depth p.1) (sym name.is) (tree_stays mid new grown depth right r.inner),
   );
@@ -111,7 +111,7 @@ module _ (old : List (ℕ × ℕ)) (depth d tree place : ℕ) (parts : ℕ × �
   module _ (mid new : List (ℕ × ℕ)) (leaf t : ℕ) (first : HasGrown old mid) (later : HasGrown mid new) (h : IsTree old depth tree) where
     -- another leaf in the left half
     pub set_left : (left : ℕ) → place < 2 ^ d → HasLeaves mid d left (slice_set (leaves old d parts.0) place leaf)
-        → IsNameOf new t (left, parts.1) → HasLeaves new depth t (slice_set (leaves old depth tree) place leaf)
+        → IsNameOf (0, 0) new t (left, parts.1) → HasLeaves new depth t (slice_set (leaves old depth tree) place leaf)
     set_left left low made name =
         let long = length_leaves old d parts.0 in
         let set = set-append_left (leaves old d parts.0) (leaves old d parts.1) place leaf (omega (arith, low, long)) in
@@ -122,7 +122,7 @@ module _ (old : List (ℕ × ℕ)) (depth d tree place : ℕ) (parts : ℕ × �
 
     -- another leaf in the right half
     pub set_right : (right : ℕ) → 2 ^ d ≤ place → HasLeaves mid d right (slice_set (leaves old d parts.1) (place - 2 ^ d) leaf)
-        → IsNameOf new t (parts.0, right) → HasLeaves new depth t (slice_set (leaves old depth tree) place leaf)
+        → IsNameOf (0, 0) new t (parts.0, right) → HasLeaves new depth t (slice_set (leaves old depth tree) place leaf)
     set_right right high made name =
         let set = set-append_right (leaves old d parts.0) (leaves old d parts.1) (2 ^ d) place leaf (length_leaves old d parts.0) high in
         let all = joined mid new d parts.0 right t (leaves old d parts.0) (slice_set (leaves old d parts.1) (place - 2 ^ d) leaf) later
