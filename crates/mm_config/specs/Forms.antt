@@ -89,38 +89,31 @@ abbrev pub slot_head : Slot → ℕ
 slot_head s =
     packed 32 (state_number s.state) (packed 2 (one_if s.past) (packed 32 (length s.pending) (number_of_flags s.empty)))
 
--- a flag for each word: whether it differs from that of the base, and is a pointer
-abbrev pub tagged_flags : List Word → List Word → List Bool
-tagged_flags (b ∷ base) (w ∷ words) = (not (same_word b w) && is_pointer w) ∷ tagged_flags base words
-tagged_flags _ _ = []
-
--- the registers that differ, and those of them that hold pointers
+-- the registers that differ, and those that hold pointers
 abbrev pub slot_masks : Slot → Slot → ℕ
 slot_masks base s =
-    packed 65536 (number_of_flags (changed_flags base.regs s.regs)) (number_of_flags (tagged_flags base.regs s.regs))
+    packed 65536 (number_of_flags (changed_flags base.regs s.regs)) (number_of_flags (map is_pointer s.regs))
 
 unfoldable pub slot_form : Slot → Slot → List ℕ
 slot_form base s =
     slot_head s ∷ slot_masks base s ∷ bits_of s.ip ∷ changed_bits base.regs s.regs ++ flat_map load_form s.pending
 
-unfoldable pub slot_from : Slot → List ℕ → Slot × List ℕ
+-- the slot of these numbers, whose turns are not counted
+unfoldable pub slot_from : Slot → List ℕ → Slot
 slot_from base ns =
     let head = first_number ns in
     let masks = first_number (behind ns) in
     let changed = register_flags (masks % 65536) in
     let words = words_from changed (register_flags (masks / 65536)) base.regs (behind (behind (behind ns))) in
-    let loads = loads_from (few_loads (head / 64 % 32)) words.1 in (
-      record base {
-        regs = words.0;
-        ip = ip_of base.ip (first_number (behind (behind ns)));
-        past = head / 32 % 2 == 1;
-        turns = 0;
-        state = state_at (head % 32);
-        empty = register_flags (head / 2048 % 65536);
-        pending = loads.0;
-      },
-      loads.1,
-    )
+    record base {
+      regs = words.0;
+      ip = ip_of base.ip (first_number (behind (behind ns)));
+      past = head / 32 % 2 == 1;
+      turns = 0;
+      state = state_at (head % 32);
+      empty = register_flags (head / 2048 % 65536);
+      pending = (loads_from (few_loads (head / 64 % 32)) words.1).0;
+    }
 
 -- 4. A queue.
 
@@ -131,20 +124,27 @@ event_form e = e.slot ∷ number_of e.cause ∷ bits_of e.ip ∷ word_form e.add
 abbrev pub pointer_or_key : ℕ → Pointer
 pointer_or_key bits = if spells_pointer bits then pointer_of bits else record { perm = Key; log = 0; addr = 0 }
 
--- the event of seven numbers
-abbrev pub event_of : (slot cause ip addr_tag addr value_tag value : ℕ) → Event
-event_of slot cause ip addr_tag addr value_tag value = record {
-  slot = slot % 256;
-  cause = unwrap_or (cause_of cause) NotPointer;
-  ip = pointer_or_key ip;
-  addr_op = word_of (addr_tag == 1) addr;
-  value_op = word_of (value_tag == 1) value;
-}
+-- an event, given its operands and the numbers from the event's first on
+abbrev pub event_with : List ℕ → Word × List ℕ → Word × List ℕ → Event × List ℕ
+event_with ns addr value = (
+  record {
+    slot = first_number ns % 256;
+    cause = unwrap_or (cause_of (first_number (behind ns))) NotPointer;
+    ip = pointer_or_key (first_number (behind (behind ns)));
+    addr_op = addr.0;
+    value_op = value.0;
+  },
+  value.1,
+)
 
-unfoldable pub queue_form : List Event → List ℕ
+unfoldable pub event_from : List ℕ → Event × List ℕ
+event_from ns = let addr = word_from (behind (behind (behind ns))) in event_with ns addr (word_from addr.1)
+
+abbrev pub queue_form : List Event → List ℕ
 queue_form events = flat_map event_form events
 
+-- the events of a queue, of seven numbers each
 abbrev pub queue_from : List ℕ → List Event
 queue_from (slot ∷ cause ∷ ip ∷ addr_tag ∷ addr ∷ value_tag ∷ value ∷ ns) =
-    event_of slot cause ip addr_tag addr value_tag value ∷ queue_from ns
+    (event_from (slot ∷ cause ∷ ip ∷ addr_tag ∷ addr ∷ value_tag ∷ value ∷ ns)).0 ∷ queue_from ns
 queue_from _ = []

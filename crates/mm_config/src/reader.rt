@@ -1,5 +1,7 @@
 //! Numbers that are read one after the other.
 
+ghost use Rattle.std.specs.Prelude.{◌≡◌, length};
+ghost use Rattle.mm_config.specs.Forms.{first_number, behind};
 
 use std::marker::Model;
 
@@ -10,6 +12,7 @@ pub(crate) struct Reader<'a> {
 }
 
 impl<'a> Model for Reader<'a> {
+    ghost use Rattle.std.specs.Prelude.{ℕ, List};
 
     ghost Value = { List ℕ };
 
@@ -19,12 +22,15 @@ impl<'a> Model for Reader<'a> {
 impl<'a> Reader<'a> {
     /// A reader of these numbers, from the first on.
     pub(crate) fn new(numbers: &'a [u64]) -> Reader<'a>
+        ensures { result ≡ numbers.now }
     {
         Reader { rest: numbers }
     }
 
     /// The next number; 0 after the last.
     pub(crate) fn next(&mut self) -> u64
+        ensures number { result ≡ first_number self.old }
+        ensures rest { self.new ≡ behind self.old }
     {
         match self.rest {
             [number, rest @ ..] => {
@@ -37,6 +43,7 @@ impl<'a> Reader<'a> {
 
     /// The count of the numbers that are left.
     pub(crate) fn len(&self) -> usize
+        ensures { result ≡ length self.now }
     {
         self.rest.len()
     }

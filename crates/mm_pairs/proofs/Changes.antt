@@ -15,7 +15,7 @@ changed_both at [] (y ∷ names) was_right right e = absurd (omega (arith, e))
 changed_both at (x ∷ was) [] was_right right e = absurd (omega (arith, e))
 changed_both at (x ∷ was) (y ∷ names) was_right right e =
     by (x == y) (changed_both (at + 1) was names was_right right (omega (arith, e))
-        ∙ ap (λ k. changed (at + 1) was names ++ changed k was_right right) (let same : at + 1 + length was ≡ at + length (x ∷ was) = omega arith in same))
+    ∙ ap (λ k. changed (at + 1) was names ++ changed k was_right right) (let same : at + 1 + length was ≡ at + length (x ∷ was) = omega arith in same))
   where
     by : (b : Bool) → changed (at + 1) (was ++ was_right) (names ++ right) ≡ changed (at + 1) was names ++ changed (at + length (x ∷ was)) was_right right
         → (if b then changed (at + 1) (was ++ was_right) (names ++ right) else (at, y) ∷ changed (at + 1) (was ++ was_right) (names ++ right))
@@ -36,8 +36,8 @@ module _ (pairs : List (ℕ × ℕ)) (depth d first half was tree : ℕ) (before
   halves =
       let long = length_leaves pairs d befores.0 in
       sym ((λ j. changed first (both pairs depth d was 0 befores is b j) (both pairs depth d tree 0 parts is p j))
-        ∙ changed_both first (leaves pairs d befores.0) (leaves pairs d parts.0) (leaves pairs d befores.1) (leaves pairs d parts.1) (long ∙ sym (length_leaves pairs d parts.0))
-        ∙ ap (λ n. left ++ right n) (long ∙ sym h))
+      ∙ changed_both first (leaves pairs d befores.0) (leaves pairs d parts.0) (leaves pairs d befores.1) (leaves pairs d parts.1) (long ∙ sym (length_leaves pairs d parts.0))
+      ∙ ap (λ n. left ++ right n) (long ∙ sym h))
 
   pub listed : (out mid new : List (ℕ × ℕ)) → mid ≡ out ++ left → new ≡ mid ++ right half → new ≡ out ++ changed first (leaves pairs depth was) (leaves pairs depth tree)
   listed out mid new m n = n ∙ ap (λ l. l ++ right half) m ∙ append_assoc out left (right half) ∙ ap (λ l. out ++ l) halves

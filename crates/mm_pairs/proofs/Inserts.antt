@@ -1,12 +1,77 @@
--- Pairs, when one more is kept.
-use Rattle.std.proofs.Common.{◌≡◌, ℕ, zero, suc, ◌+◌, ◌<◌, ◌≤◌, Bool, true, false, ◌&&◌, nat_eq, List, [], ◌∷◌, ◌++◌, length, take, slice_get, slice_index_or, if◌then◌else◌, Some}
-use Rattle.std.proofs.Common.{refl, sym, ap, ◌∙◌, subst, arith, eqb-true, eq-eqb, ◌⊎◌, inl, inr, length-append}
-use Rattle.std.proofs.Math.Seq.{take-length, take-append_seam, get_or-append_seam}
-use Rattle.std.proofs.lemmas.{List.get_or_append_left, Option.{get_or_from_slice_get, slice_get_within}, Bool.cases_lt}
-use Rattle.std.specs.List.{IsDistinct, AllByRecursion, list_any}
+-- What stands once among what is kept, and what one key more leaves.
+use Rattle.std.proofs.Common.{◌≡◌, ℕ, zero, suc, ◌+◌, ◌<◌, ◌≤◌, Bool, true, false, ◌&&◌, nat_eq, List, [], ◌∷◌, ◌++◌, map, length, take, slice_get, slice_index_or, if◌then◌else◌, Some}
+use Rattle.std.proofs.Common.{refl, sym, ap, ◌∙◌, subst, arith, eqb-true, eq-eqb}
+use Rattle.std.proofs.Math.Seq.{take-length, take-append_seam}
+use Rattle.std.proofs.lemmas.{List.{length-map, map-append}, Option.{get_or_from_slice_get, slice_get-map, slice_get_within}}
+use Rattle.std.specs.{List.{IsDistinct, AllByRecursion, list_any}, Option.option_map}
 use Rattle.indexmap.specs.IndexSet.{insert_key}
-use Rattle.mm_pairs.specs.Trees.{pair_of, HasGrown, IsNameOf, PairsAreApart}
+use Rattle.mm_pairs.specs.Named.{named, HasGrown, HaveOneName, IsNameOf}
 
+-- keys of any kind, each of which stands for a value
+module _ {K A : Type 0} (eq : K → K → Bool) (f : K → A) (none : A) (P : K → Type 0) where
+  module _ (tells : (k l : K) → P k → P l → f k ≡ f l → eq k l ≡ true) (some : (k : K) → P k → f k ≡ none → ⊥) where
+    elsewhere : (k : K) (ks : List K) → P k → AllByRecursion P ks → AllByRecursion (λ l. eq k l ≡ false) ks
+        → (at : ℕ) → at < length (map f ks) → f k ≡ slice_index_or (map f ks) at none → ⊥
+    elsewhere k [] p ps apart at lt e = absurd (omega (arith, lt))
+    elsewhere k (l ∷ ks) p ps apart zero lt e = let same = tells k l p ps.0 e in let other = apart.0 in cc
+    elsewhere k (l ∷ ks) p ps apart (suc at) lt e = elsewhere k ks p ps.1 apart.1 at (omega (arith, lt)) e
+
+    present : (ks : List K) → AllByRecursion P ks → (at : ℕ) → at < length (map f ks) → slice_index_or (map f ks) at none ≡ none → ⊥
+    present [] ps at lt e = absurd (omega (arith, lt))
+    present (k ∷ ks) ps zero lt e = some k ps.0 e
+    present (k ∷ ks) ps (suc at) lt e = present ks ps.1 at (omega (arith, lt)) e
+
+    once : (ks : List K) → AllByRecursion P ks → IsDistinct eq ks → (a b : ℕ) → a < length (map f ks) → b < length (map f ks)
+        → slice_index_or (map f ks) a none ≡ slice_index_or (map f ks) b none → a ≡ b
+    unfolding IsDistinct
+    once [] ps apart a b la lb e = absurd (omega (arith, la))
+    once (k ∷ ks) ps apart zero zero la lb e = refl
+    once (k ∷ ks) ps apart zero (suc b) la lb e = absurd (elsewhere k ks ps.0 ps.1 apart.0 b (omega (arith, lb)) e)
+    once (k ∷ ks) ps apart (suc a) zero la lb e = absurd (elsewhere k ks ps.0 ps.1 apart.0 a (omega (arith, la)) (sym e))
+    once (k ∷ ks) ps apart (suc a) (suc b) la lb e = ap suc (once ks ps.1 apart.1 a b (omega (arith, la)) (omega (arith, lb)) e)
+
+    -- no value has two names
+    pub have_one_name : (ks : List K) → AllByRecursion P ks → IsDistinct eq ks → HaveOneName none (map f ks)
+    have_one_name ks ps apart zero zero la lb e = refl
+    have_one_name ks ps apart zero (suc b) la lb e = absurd (present ks ps b (omega (arith, lb)) (sym e))
+    have_one_name ks ps apart (suc a) zero la lb e = absurd (present ks ps a (omega (arith, la)) e)
+    have_one_name ks ps apart (suc a) (suc b) la lb e = ap suc (once ks ps apart a b (omega (arith, la)) (omega (arith, lb)) e)
+
+  push : (ks : List K) (k : K) → AllByRecursion P ks → P k → AllByRecursion P (ks ++ k ∷ [])
+  push [] k ps p = (p, tt)
+  push (l ∷ ks) k ps p = (ps.0, push ks k ps.1 p)
+
+  module _ (keys now : List K) (k : K) (is : now ≡ insert_key eq keys k) where
+    -- what holds of each key still does
+    pub all_more : AllByRecursion P keys → P k → AllByRecursion P now
+    all_more ps p = subst (AllByRecursion P) (sym is) (by (list_any (eq k) keys))
+      where
+        by : (b : Bool) → AllByRecursion P (if b then keys else keys ++ k ∷ [])
+        by true = ps
+        by false = push keys k ps p
+
+    -- what the key stands for has the name of its place
+    pub is_named : ((l : K) → eq k l ≡ true → f l ≡ f k) → (at : ℕ) → ((l : K) × (slice_get now at ≡ Some l) × (eq k l ≡ true)) → IsNameOf none (map f now) (at + 1) (f k)
+    is_named same at stored =
+        let within = slice_get_within now at stored.0 stored.1 in
+        let long = length-map now f in
+        let next : at + 1 ≡ suc at = omega arith in
+        record {
+          within = omega (arith, within, long);
+          is = ap (named none (map f now)) next
+              ∙ get_or_from_slice_get (map f now) at (f stored.0) none (slice_get-map f now at ∙ ap (option_map f) stored.1)
+              ∙ same stored.0 stored.2;
+        }
+
+    -- what was kept stays
+    pub has_grown : HasGrown (map f keys) (map f now)
+    has_grown = ap (λ l. take (length (map f keys)) (map f l)) is ∙ by (list_any (eq k) keys)
+      where
+        by : (b : Bool) → take (length (map f keys)) (map f (if b then keys else keys ++ k ∷ [])) ≡ map f keys
+        by true = take-length (map f keys)
+        by false = ap (take (length (map f keys))) (map-append f keys (k ∷ [])) ∙ take-append_seam (map f keys) (f k ∷ [])
+
+-- pairs of numbers by their test
 abbrev pub same_pair : ℕ × ℕ → ℕ × ℕ → Bool
 same_pair x y = nat_eq x.0 y.0 && nat_eq x.1 y.1
 
@@ -17,69 +82,5 @@ is_same x y e = by (nat_eq x.0 y.0) refl e
     by true first second = λ j. (eqb-true x.0 y.0 first j, eqb-true x.1 y.1 second j)
     by false first second = cc
 
-own : (x : ℕ × ℕ) → same_pair x x ≡ true
-own x = ap (λ b. b && nat_eq x.1 x.1) (eq-eqb x.0 x.0 refl) ∙ eq-eqb x.1 x.1 refl
-
--- what is apart by its test stands once
-module _ {K : Type 0} (eq : K → K → Bool) (same : (x : K) → eq x x ≡ true) (d : K) where
-  elsewhere : (x : K) (xs : List K) → AllByRecursion (λ y. eq x y ≡ false) xs → (k : ℕ) → k < length xs → x ≡ slice_index_or xs k d → ⊥
-  elsewhere x [] apart k lt e = absurd (omega (arith, lt))
-  elsewhere x (y ∷ xs) apart zero lt e = let other = apart.0 in let is = ap (eq x) e in let own = same x in cc
-  elsewhere x (y ∷ xs) apart (suc k) lt e = elsewhere x xs apart.1 k (omega (arith, lt)) e
-
-  pub stands_once : (xs : List K) → IsDistinct eq xs → (a b : ℕ) → a < length xs → b < length xs → slice_index_or xs a d ≡ slice_index_or xs b d → a ≡ b
-  unfolding IsDistinct
-  stands_once [] apart a b la lb e = absurd (omega (arith, la))
-  stands_once (x ∷ xs) apart zero zero la lb e = refl
-  stands_once (x ∷ xs) apart zero (suc b) la lb e = absurd (elsewhere x xs apart.0 b (omega (arith, lb)) e)
-  stands_once (x ∷ xs) apart (suc a) zero la lb e = absurd (elsewhere x xs apart.0 a (omega (arith, la)) (sym e))
-  stands_once (x ∷ xs) apart (suc a) (suc b) la lb e = ap suc (stands_once xs apart.1 a b (omega (arith, la)) (omega (arith, lb)) e)
-
--- what was kept stays
-pub grown : {K : Type 0} (eq : K → K → Bool) (keys : List K) (k : K) → take (length keys) (insert_key eq keys k) ≡ keys
-grown eq keys k = by (list_any (eq k) keys)
-  where
-    by : (b : Bool) → take (length keys) (if b then keys else keys ++ k ∷ []) ≡ keys
-    by true = take-length keys
-    by false = take-append_seam keys (k ∷ [])
-
-module _ (keys now : List (ℕ × ℕ)) (p : ℕ × ℕ) (is : now ≡ insert_key same_pair keys p) where
-  -- the pair has the name of its place
-  pub named : (at : ℕ) → (k : ℕ × ℕ) × (slice_get now at ≡ Some k) × (same_pair p k ≡ true) → IsNameOf now (at + 1) p
-  named at stored =
-      let within = slice_get_within now at stored.0 stored.1 in
-      let next : at + 1 ≡ suc at = omega arith in
-      record {
-        kept = omega (arith, within);
-        is = ap (pair_of now) next ∙ get_or_from_slice_get now at stored.0 (0, 0) stored.1 ∙ sym (is_same p stored.0 stored.2);
-      }
-
-  pub has_grown : HasGrown keys now
-  has_grown = ap (take (length keys)) is ∙ grown same_pair keys p
-
-  last : PairsAreApart keys → (p ≡ (0, 0) → ⊥) → (k : ℕ) → k < length (keys ++ p ∷ []) → slice_index_or (keys ++ p ∷ []) k (0, 0) ≡ (0, 0) → ⊥
-  last apart some k lt e = by (cases_lt k (length keys))
-    where
-      by : (k < length keys) ⊎ (length keys ≤ k) → ⊥
-      by (inl low) = let no = apart (suc k) 0 (omega (arith, low)) (omega arith) (sym (get_or_append_left keys (p ∷ []) (0, 0) k low) ∙ e) in omega (arith, no)
-      by (inr high) =
-          let long = length-append keys (p ∷ []) in
-          let at : length keys ≡ k = omega (arith, lt, high, long) in
-          some (sym (get_or-append_seam keys p [] (0, 0)) ∙ ap (λ n. slice_index_or (keys ++ p ∷ []) n (0, 0)) at ∙ e)
-
-  not_none : PairsAreApart keys → (p ≡ (0, 0) → ⊥) → (k : ℕ) → k < length now → slice_index_or now k (0, 0) ≡ (0, 0) → ⊥
-  not_none apart some k lt e = by (list_any (same_pair p) keys) is
-    where
-      by : (b : Bool) → now ≡ (if b then keys else keys ++ p ∷ []) → ⊥
-      by true same =
-          let within = subst (λ (l : List (ℕ × ℕ)). k < length l) same lt in
-          let no = apart (suc k) 0 (omega (arith, within)) (omega arith) (sym (ap (λ l. slice_index_or l k (0, 0)) same) ∙ e) in
-          omega (arith, no)
-      by false same = last apart some k (subst (λ (l : List (ℕ × ℕ)). k < length l) same lt) (sym (ap (λ l. slice_index_or l k (0, 0)) same) ∙ e)
-
-  -- pairs stay apart
-  pub stay_apart : PairsAreApart keys → (p ≡ (0, 0) → ⊥) → IsDistinct same_pair now → PairsAreApart now
-  stay_apart apart some distinct zero zero la lb e = refl
-  stay_apart apart some distinct zero (suc b) la lb e = absurd (not_none apart some b (omega (arith, lb)) (sym e))
-  stay_apart apart some distinct (suc a) zero la lb e = absurd (not_none apart some a (omega (arith, la)) e)
-  stay_apart apart some distinct (suc a) (suc b) la lb e = ap suc (stands_once same_pair own (0, 0) now distinct a b (omega (arith, la)) (omega (arith, lb)) e)
+pub own_pair : (x y : ℕ × ℕ) → x ≡ y → same_pair x y ≡ true
+own_pair x y e = ap (λ b. b && nat_eq x.1 y.1) (eq-eqb x.0 y.0 (ap (λ p. p.0) e)) ∙ eq-eqb x.1 y.1 (ap (λ p. p.1) e)

@@ -1,9 +1,9 @@
 -- What stays of names when more pairs are kept, trees with another leaf, and that trees with the same leaves are the same.
-use Rattle.std.proofs.Common.{◌≡◌, ℕ, zero, suc, ◌+◌, ◌-◌, ◌*◌, ◌^◌, ◌<◌, ◌≤◌, List, [], ◌∷◌, ◌++◌, length, take, drop, slice_index_or, slice_set}
+use Rattle.std.proofs.Common.{◌≡◌, ℕ, zero, suc, ◌-◌, ◌^◌, ◌<◌, ◌≤◌, List, ◌++◌, length, take, drop, slice_index_or, slice_set}
 use Rattle.std.proofs.Common.{refl, sym, ap, ◌∙◌, subst, arith, length-append}
 use Rattle.std.proofs.lemmas.List.{get_or-take, get_or_append_left, get_or-append_right, set-append_left, set-append_right, length-take}
 use Rattle.std.proofs.Math.{Nat.pow-suc, Seq.{take-append_seam, drop-append_seam}}
-use Rattle.mm_pairs.specs.Trees.{pair_of, leaves, IsTree, HasGrown, IsNameOf, HasLeaves, PairsAreApart, TreesAreApart}
+use Rattle.mm_pairs.specs.{Named.{HasGrown, HaveOneName, IsNameOf}, Trees.{pair_of, leaves, IsTree, HasLeaves, TreesAreApart}}
 
 -- 1. What stays.
 
@@ -53,7 +53,7 @@ front_of n xs ys e = ap (λ k. take k (xs ++ ys)) (sym e) ∙ take-append_seam x
 back_of : (n : ℕ) (xs ys : List ℕ) → length xs ≡ n → drop n (xs ++ ys) ≡ ys
 back_of n xs ys e = ap (λ k. drop k (xs ++ ys)) (sym e) ∙ drop-append_seam xs ys
 
-pub trees_apart : (pairs : List (ℕ × ℕ)) → PairsAreApart pairs → TreesAreApart pairs
+pub trees_apart : (pairs : List (ℕ × ℕ)) → HaveOneName (0, 0) pairs → TreesAreApart pairs
 trees_apart pairs apart zero a b ta tb e = ap (λ l. slice_index_or l 0 0) e
 trees_apart pairs apart (suc depth) a b ta tb e =
     let xs = leaves pairs depth (pair_of pairs a).0 in
@@ -65,17 +65,17 @@ trees_apart pairs apart (suc depth) a b ta tb e =
     let left : xs ≡ us = sym (front_of (2 ^ depth) xs ys lx) ∙ ap (take (2 ^ depth)) e ∙ front_of (2 ^ depth) us vs lu in
     let right : ys ≡ vs = sym (back_of (2 ^ depth) xs ys lx) ∙ ap (drop (2 ^ depth)) e ∙ back_of (2 ^ depth) us vs lu in
     apart a b ta.0 tb.0 (same_pair (pair_of pairs a) (pair_of pairs b)
-        (trees_apart pairs apart depth (pair_of pairs a).0 (pair_of pairs b).0 ta.1 tb.1 left)
-        (trees_apart pairs apart depth (pair_of pairs a).1 (pair_of pairs b).1 ta.2 tb.2 right))
+    (trees_apart pairs apart depth (pair_of pairs a).0 (pair_of pairs b).0 ta.1 tb.1 left)
+    (trees_apart pairs apart depth (pair_of pairs a).1 (pair_of pairs b).1 ta.2 tb.2 right))
 
 -- 3. A tree of two.
 
 -- two trees, one of which was there before, joined
 joined : (mid new : List (ℕ × ℕ)) (depth left right t : ℕ) (xs ys : List ℕ) → HasGrown mid new → HasLeaves mid depth left xs
-    → HasLeaves mid depth right ys → IsNameOf new t (left, right) → HasLeaves new (suc depth) t (xs ++ ys)
+    → HasLeaves mid depth right ys → IsNameOf (0, 0) new t (left, right) → HasLeaves new (suc depth) t (xs ++ ys)
 joined mid new depth left right t xs ys grown l r name = record {
   inner = (
-    name.kept,
+    name.within,
     subst (λ (p : ℕ × ℕ). IsTree new depth p.0) (sym name.is) (tree_stays mid new grown depth left l.inner),
     subst (λ (p : ℕ × ℕ). IsTree new depth p.1) (sym name.is) (tree_stays mid new grown depth right r.inner),
   );
@@ -106,12 +106,12 @@ module _ (old : List (ℕ × ℕ)) (depth d tree place : ℕ) (parts : ℕ × �
   pub leaf_right : 2 ^ d ≤ place → slice_index_or (leaves old d parts.1) (place - 2 ^ d) 0 ≡ slice_index_or (leaves old depth tree) place 0
   leaf_right high =
       sym (ap (λ l. slice_index_or l place 0) both
-        ∙ get_or-append_right (leaves old d parts.0) (leaves old d parts.1) (2 ^ d) place 0 (length_leaves old d parts.0) high)
+      ∙ get_or-append_right (leaves old d parts.0) (leaves old d parts.1) (2 ^ d) place 0 (length_leaves old d parts.0) high)
 
   module _ (mid new : List (ℕ × ℕ)) (leaf t : ℕ) (first : HasGrown old mid) (later : HasGrown mid new) (h : IsTree old depth tree) where
     -- another leaf in the left half
     pub set_left : (left : ℕ) → place < 2 ^ d → HasLeaves mid d left (slice_set (leaves old d parts.0) place leaf)
-        → IsNameOf new t (left, parts.1) → HasLeaves new depth t (slice_set (leaves old depth tree) place leaf)
+        → IsNameOf (0, 0) new t (left, parts.1) → HasLeaves new depth t (slice_set (leaves old depth tree) place leaf)
     set_left left low made name =
         let long = length_leaves old d parts.0 in
         let set = set-append_left (leaves old d parts.0) (leaves old d parts.1) place leaf (omega (arith, low, long)) in
@@ -122,7 +122,7 @@ module _ (old : List (ℕ × ℕ)) (depth d tree place : ℕ) (parts : ℕ × �
 
     -- another leaf in the right half
     pub set_right : (right : ℕ) → 2 ^ d ≤ place → HasLeaves mid d right (slice_set (leaves old d parts.1) (place - 2 ^ d) leaf)
-        → IsNameOf new t (parts.0, right) → HasLeaves new depth t (slice_set (leaves old depth tree) place leaf)
+        → IsNameOf (0, 0) new t (parts.0, right) → HasLeaves new depth t (slice_set (leaves old depth tree) place leaf)
     set_right right high made name =
         let set = set-append_right (leaves old d parts.0) (leaves old d parts.1) (2 ^ d) place leaf (length_leaves old d parts.0) high in
         let all = joined mid new d parts.0 right t (leaves old d parts.0) (slice_set (leaves old d parts.1) (place - 2 ^ d) leaf) later

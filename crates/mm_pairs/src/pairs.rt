@@ -1,7 +1,8 @@
 //! Pairs of names, each kept once.
 
 ghost use Rattle.std.specs.Prelude.{◌≡◌, ◌≤◌, [], IfOk, OnOk, OnErr, length};
-ghost use Rattle.mm_pairs.specs.Trees.{pair_of, HasGrown, IsNameOf, PairsAreApart, TreesAreApart};
+ghost use Rattle.mm_pairs.specs.Named.{HasGrown, HaveOneName, IsNameOf};
+ghost use Rattle.mm_pairs.specs.Trees.{pair_of, TreesAreApart};
 
 use indexmap::IndexSet;
 use std::alloc::{AllocError, Global};
@@ -15,14 +16,14 @@ pub struct Pairs {
 }
 
 impl Model for Pairs {
-    ghost use Rattle.std.specs.Prelude.{ℕ, List};
-    ghost use Rattle.mm_pairs.specs.Trees.{PairsAreApart};
+    ghost use Rattle.std.specs.Prelude.{◌≡◌, ℕ, List};
+    ghost use Rattle.std.specs.List.{AllByRecursion};
 
     ghost Value = { List (ℕ × ℕ) };
 
     ghost view = { λ p. p.pairs.keys };
 
-    ghost invariant = { λ p. PairsAreApart p.pairs.keys };
+    ghost invariant = { λ p. AllByRecursion (λ pair. pair ≡ (0, 0) → ⊥) p.pairs.keys };
 }
 
 impl Pairs {
@@ -37,7 +38,7 @@ impl Pairs {
 
     /// The name of a pair, which is kept if it is new.
     pub fn join(&mut self, left: u32, right: u32) -> Result<u32, AllocError>
-        ensures name { IfOk result (λ name. IsNameOf self.new name (left, right)) }
+        ensures name { IfOk result (λ name. IsNameOf (0, 0) self.new name (left, right)) }
         ensures grown { HasGrown self.old self.new }
     {
         if left == 0 && right == 0 {
@@ -50,9 +51,9 @@ impl Pairs {
         Ok(at as u32 + 1)
     }
 
-    /// Says, for proofs, that trees with the same leaves have the same name. The call does nothing.
+    /// Says, for proofs, that each pair and each tree has one name. The call does nothing.
     pub fn apart(&self)
-        ensures pairs { PairsAreApart self.now }
+        ensures pairs { HaveOneName (0, 0) self.now }
         ensures trees { TreesAreApart self.now }
     {
         let _count = self.pairs.len();

@@ -1,7 +1,8 @@
 //! Full binary trees of pairs, with names at their leaves.
 
 ghost use Rattle.std.specs.Prelude.{◌≡◌, ◌+◌, ◌<◌, ◌≤◌, ◌^◌, ◌++◌, IfOk, OnOk, slice_set, slice_index_or};
-ghost use Rattle.mm_pairs.specs.Trees.{IsTree, leaves, HasLeaves, HasGrown, changed};
+ghost use Rattle.mm_pairs.specs.Named.{HasGrown};
+ghost use Rattle.mm_pairs.specs.Trees.{IsTree, leaves, HasLeaves, changed};
 
 use crate::pairs::Pairs;
 use std::alloc::AllocError;

@@ -1,4 +1,4 @@
-use Rattle.std.proofs.Common.{◌≡◌, suc, ◌-◌, ◌+◌, ◌*◌, ◌<◌, ◌≤◌, ◌^◌, ◌++◌, ◌∙◌, sym, ap, arith}
+use Rattle.std.proofs.Common.{◌≡◌, suc, ◌-◌, ◌^◌, ◌++◌, ◌∙◌, sym, ap, arith}
 use Rattle.std.proofs.lemmas.{List.append-nil, Nat.one_shl, Result.on_ok_weaker}
 use Rattle.std.proofs.Math.Nat.{pow-suc}
 use Rattle.mm_pairs.specs.Trees.{leaves, changed}
