@@ -1,4 +1,4 @@
-use Rattle.std.proofs.{Common.{[], map, zip, length, ◌++◌, ◌∙◌, ap, sym, subst}, lemmas.Option.slice_get_within}
+use Rattle.std.proofs.{Common.{◌≡◌, [], map, zip, length, ◌++◌, ◌∙◌, ap, sym, subst}, lemmas.Option.slice_get_within}
 use Rattle.mm_explore.specs.FoundLists.{IsAt}
 use Rattle.mm_explore.proofs.{HeldEnds.found_is, AllFound.at_index, Steps.{can_put, is_put, is_kept}}
 use Rattle.mm_explore.proofs.outcomes.outcome.Goals as goal
@@ -13,7 +13,20 @@ pub schedule-requires : goal.schedule-requires
 schedule-requires c = let k = c.requires.end.3 in slice_get_within c.args.found.now c.args.tally.first.at c.requires.end.1.schedule k.first
 
 pub returns-clause-kept : goal.returns-clause-kept
-returns-clause-kept c = ?
+returns-clause-kept c =
+    let i = c.args.img.now in
+    let list = c.args.found.now in
+    let at = c.args.tally.first.at in
+    let t = c.requires.end.1.schedule in
+    let here = c.requires.end.3.first in
+    let put = is_put i list c.put.new.self at (slice_get_within list at t here) (c.in_ok-put.ensures i _ c.requires.kept.stands) in
+    is_kept i list t c.put.new.self (subst (λ u. IsAt i list u c.put.new.self) (at_index list at t [] here) put)
 
 pub returns-clause-outcome : goal.returns-clause-outcome
-returns-clause-outcome c = ?
+returns-clause-outcome c = λ ends e key k.
+    let i = c.args.img.now in
+    let list = c.args.found.now in
+    let at = c.args.tally.first.at in
+    let put = is_put i list c.put.new.self at (slice_get_within list at e.schedule k.first) (c.in_ok-put.ensures i _ c.requires.kept.stands) in
+    let there : IsAt i list e.schedule c.put.new.self = subst (λ u. IsAt i list u c.put.new.self) (at_index list at e.schedule [] k.first) put in
+    ?
