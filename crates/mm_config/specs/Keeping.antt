@@ -4,7 +4,7 @@ use Rattle.std.specs.Prelude.{slice_index_or, Contains, Option}
 use Rattle.std.specs.List.{AllByRecursion, AllZip}
 use Rattle.mm_model.specs.{declared.event.Event.Event, Image.Image, Memory.page_at, Slot.Slot, Spelling.IsImage}
 use Rattle.mm_model.specs.{Fits.slots_of, State.{State, ThreadRow}}
-use Rattle.mm_pairs.specs.Trees.{pair_of, leaves, IsTree, PairsAreApart}
+use Rattle.mm_pairs.specs.{Named.HaveOneName, Trees.{pair_of, leaves, IsTree}}
 use Rattle.mm_config.specs.declared.configs.Configs as code
 use Rattle.mm_config.specs.{Configurations.configuration, Forms.{slot_form, queue_form}, Machines.Configs, States.IsStateOf}
 use Rattle.mm_config.specs.Parts.{Kept, Names, names_of, numbers_of, cells_of, page_name}
@@ -61,8 +61,8 @@ pub record AreNamesOf (base : List Slot) (depth : ℕ) (k : Kept) (c : State) (n
 
 -- parts that were kept stay, under the names that they have; each is kept once
 pub record IsKeptOnce (k : Kept) : Type 0 where
-  pub pairs : PairsAreApart k.pairs
-  pub outputs : PairsAreApart k.outputs
+  pub pairs : HaveOneName (0, 0) k.pairs
+  pub outputs : HaveOneName (0, 0) k.outputs
   pub numbers : (a b : ℕ) → a < length k.numbers → b < length k.numbers
       → slice_index_or k.numbers a [] ≡ slice_index_or k.numbers b [] → a ≡ b
   pub cells : (a b : ℕ) → a < length k.cells → b < length k.cells

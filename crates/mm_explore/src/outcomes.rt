@@ -76,10 +76,11 @@ fn outcome(
 {
     let End { at, ending, busy } = tally.first;
     configs.put(at as usize)?;
+    let core = configs.core();
     let mut slots = Vec::new(alloc);
-    put_slots(&mut slots, configs.core(), busy)?;
+    put_slots(&mut slots, core, busy)?;
     let mut outputs = Vec::new(alloc);
-    put_outputs(alloc, &mut outputs, configs.core(), groups)?;
+    put_outputs(alloc, &mut outputs, core, groups)?;
     let by = found.schedule(alloc, at as usize, None)?;
     Ok(OutcomeFound {
         count: tally.count,

@@ -1,5 +1,6 @@
 use Rattle.std.proofs.{Common.{◌≡◌, [], map, zip, length, ◌++◌, ◌∙◌, ap, sym, subst}, lemmas.Option.slice_get_within}
-use Rattle.mm_explore.specs.FoundLists.{IsAt}
+use Rattle.mm_model.specs.{Fits.slots_of, Flags.flags, State.output_of}
+use Rattle.mm_explore.specs.{FoundLists.IsAt, Finds.as_output, Noting.standings_of}
 use Rattle.mm_explore.proofs.{HeldEnds.found_is, AllFound.at_index, Steps.{can_put, is_put, is_kept}}
 use Rattle.mm_explore.proofs.outcomes.outcome.Goals as goal
 
@@ -29,4 +30,11 @@ returns-clause-outcome c = λ ends e key k.
     let at = c.args.tally.first.at in
     let put = is_put i list c.put.new.self at (slice_get_within list at e.schedule k.first) (c.in_ok-put.ensures i _ c.requires.kept.stands) in
     let there : IsAt i list e.schedule c.put.new.self = subst (λ u. IsAt i list u c.put.new.self) (at_index list at e.schedule [] k.first) put in
-    ?
+    let core = c.core-core.result.now in
+    let groups = c.args.groups.now in
+    found_is i c.requires.image e c.args.tally.first core groups (c.core-core.ensures i _ there) c.requires.groups k.held c.args.tally.count _ k.count
+    c.put_slots.new.out.items
+    (c.in_ok-put_slots.ensures ∙ ap (λ l. l ++ zip (map (λ s. s.number) (slots_of core)) (standings_of (flags (length (slots_of core)) c.args.tally.first.busy) (slots_of core))) c.new-slots.ensures.items)
+    c.put_outputs.new.out.items
+    (c.in_ok-put_outputs.ensures ∙ ap (λ l. l ++ map as_output (zip groups (map (output_of core) groups))) c.new-outputs.ensures.items)
+    c.in_ok-by.by.items (c.in_ok-by.ensures ∙ at_index list at e.schedule [] k.first)
