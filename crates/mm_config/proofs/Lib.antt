@@ -5,3 +5,5 @@ pub mod Taking
 pub mod Masks
 pub mod EventForms
 pub mod States
+pub mod Revising
+pub mod Turned
