@@ -4,3 +4,6 @@ pub mod Spells
 pub mod Taking
 pub mod Masks
 pub mod EventForms
+pub mod CellForms
+pub mod ListForms
+pub mod Placing
