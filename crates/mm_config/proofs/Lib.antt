@@ -7,3 +7,5 @@ pub mod EventForms
 pub mod CellForms
 pub mod ListForms
 pub mod Placing
+pub mod PageTrees
+pub mod PageCells

@@ -1,7 +1,7 @@
 -- Places of pages.
-use Rattle.std.proofs.Common.{◌≡◌, ◌⊎◌, inl, inr, ℕ, zero, suc, ◌+◌, ◌<◌, ◌≤◌, Bool, true, false, not, nat_eq, cond, List, [], ◌∷◌, ◌++◌, length, slice_index_or, if◌then◌else◌, drop, take}
+use Rattle.std.proofs.Common.{◌≡◌, ◌⊎◌, inl, inr, ℕ, zero, suc, ◌+◌, ◌<◌, ◌≤◌, Bool, true, false, not, nat_eq, cond, List, [], ◌∷◌, ◌++◌, length, slice_index_or, if◌then◌else◌, drop, take, position, nat_lt, Option, Some, None}
 use Rattle.std.proofs.Common.{refl, sym, ap, ◌∙◌, arith, eq-eqb, eqb-true, subst}
-use Rattle.std.proofs.lemmas.List.{take-append-drop, Folds.position_or_len_push}
+use Rattle.std.proofs.lemmas.{List.{take-append-drop, Folds.position_or_len_push, Sums.prefix_len-le-length}, Bool.ltb-false}
 use Rattle.std.specs.List.{IsDistinct, AllByRecursion, list_any, position_or_len}
 use Rattle.indexmap.specs.IndexSet.{insert_key}
 use Rattle.mm_pairs.specs.Named.{HasGrown}
@@ -47,14 +47,15 @@ one_place (p ∷ pages) apart (suc at) lt =
 -- a page that has a place is there
 at_place : (pages : List ℕ) (number : ℕ) → page_place pages number < length pages → slice_index_or pages (page_place pages number) 0 ≡ number
 at_place [] number lt = absurd (omega (arith, lt))
-at_place (p ∷ pages) number lt = by (nat_eq number p) refl lt
+at_place (p ∷ pages) number lt = by (nat_eq number p) refl lt (at_place pages number)
   where
     by : (b : Bool) → nat_eq number p ≡ b → cond (not b) (1 + page_place pages number) 0 < suc (length pages)
+        → (page_place pages number < length pages → slice_index_or pages (page_place pages number) 0 ≡ number)
         → slice_index_or (p ∷ pages) (cond (not b) (1 + page_place pages number) 0) 0 ≡ number
-    by true e lt = sym (eqb-true number p e)
-    by false e lt =
+    by true e lt rest = sym (eqb-true number p e)
+    by false e lt rest =
         let next : 1 + page_place pages number ≡ suc (page_place pages number) = omega arith in
-        ap (λ n. slice_index_or (p ∷ pages) n 0) next ∙ at_place pages number (omega (arith, lt))
+        ap (λ n. slice_index_or (p ∷ pages) n 0) next ∙ rest (omega (arith, lt))
 
 -- so pages of one place are one
 pub place_tells : (pages : List ℕ) (a b : ℕ) → page_place pages a < length pages → page_place pages b ≡ page_place pages a → b ≡ a
@@ -81,3 +82,11 @@ pub place_stays : (old new : List ℕ) (number : ℕ) → HasGrown old new
 place_stays old new number grown =
     let all : old ++ drop (length old) new ≡ new = ap (λ l. l ++ drop (length old) new) (sym grown) ∙ take-append-drop (length old) new in
     subst (λ l. (page_place l number ≡ page_place old number) ⊎ ((page_place old number ≡ length old) × (length old ≤ page_place l number))) all (more old (drop (length old) new) number)
+
+-- a page that is not found has no place
+pub no_place : (pages : List ℕ) (number : ℕ) → position (nat_eq number) pages ≡ None → page_place pages number ≡ length pages
+no_place pages number none = by (nat_lt (page_place pages number) (length pages)) refl none
+  where
+    by : (b : Bool) → nat_lt (page_place pages number) (length pages) ≡ b → cond b (Some (page_place pages number)) None ≡ None → page_place pages number ≡ length pages
+    by true e none = cc
+    by false e none = let high = ltb-false (page_place pages number) (length pages) e in let low = prefix_len-le-length (λ p. not (nat_eq number p)) pages in omega (arith, high, low)

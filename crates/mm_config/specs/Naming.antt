@@ -37,7 +37,7 @@ pub record AreCells (k : Store) (depth tree : ℕ) (cells : List Cell) : Type 0 
 pub record IsPageName (k : Store) (cells : List Cell) (name : ℕ) : Type 0 where
   pub tree : ℕ
   pub is : IsNameOf (0, 0) k.pairs name (1, tree)
-  pub cells : AreCells k 9 tree cells
+  pub named : AreCells k 9 tree cells
 
 -- 2. Trees of names.
 

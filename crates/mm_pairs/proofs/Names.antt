@@ -1,23 +1,27 @@
 -- What stays of names when more pairs are kept, trees with another leaf, and that trees with the same leaves are the same.
 use Rattle.std.proofs.Common.{◌≡◌, ℕ, zero, suc, ◌-◌, ◌^◌, ◌<◌, ◌≤◌, List, ◌++◌, length, take, drop, slice_index_or, slice_set}
 use Rattle.std.proofs.Common.{refl, sym, ap, ◌∙◌, subst, arith, length-append}
-use Rattle.std.proofs.lemmas.List.{get_or-take, get_or_append_left, get_or-append_right, set-append_left, set-append_right, length-take}
+use Rattle.std.proofs.lemmas.List.{get_or-take, get_or_append_left, get_or-append_right, set-append_left, set-append_right, length-take, take-take}
 use Rattle.std.proofs.Math.{Nat.pow-suc, Seq.{take-append_seam, drop-append_seam}}
 use Rattle.mm_pairs.specs.{Named.{named, HasGrown, HaveOneName, IsNameOf}, Trees.{pair_of, leaves, IsTree, HasLeaves, TreesAreApart}}
 
 -- 1. What stays.
+
+pub no_shorter : {A : Type 0} (old new : List A) → HasGrown old new → length old ≤ length new
+no_shorter old new grown = let long = length-take (length old) new in let same = ap length grown in omega (arith, long, same)
+
+pub grown_twice : {A : Type 0} (old mid new : List A) → HasGrown old mid → HasGrown mid new → HasGrown old new
+grown_twice old mid new first later =
+    sym (take-take (length old) (length mid) new (no_shorter old mid first)) ∙ ap (take (length old)) later ∙ first
 
 module _ {A : Type 0} (none : A) (old new : List A) (grown : HasGrown old new) where
   pub named_stays : (name : ℕ) → name ≤ length old → named none new name ≡ named none old name
   named_stays zero le = refl
   named_stays (suc at) le = sym (get_or-take (length old) new at none (omega (arith, le))) ∙ ap (λ l. slice_index_or l at none) grown
 
-  pub no_shorter : length old ≤ length new
-  no_shorter = let long = length-take (length old) new in let same = ap length grown in omega (arith, long, same)
-
   pub name_stays : (name : ℕ) (x : A) → IsNameOf none old name x → IsNameOf none new name x
   name_stays name x h = record {
-    within = let more = no_shorter in let low = h.within in omega (arith, more, low);
+    within = let more = no_shorter old new grown in let low = h.within in omega (arith, more, low);
     is = named_stays name h.within ∙ h.is;
   }
 
@@ -25,7 +29,7 @@ pub tree_stays : (old new : List (ℕ × ℕ)) → HasGrown old new → (depth t
 tree_stays old new grown zero tree h = tt
 tree_stays old new grown (suc depth) tree h =
     let same = named_stays (0, 0) old new grown tree h.0 in
-    let more = no_shorter (0, 0) old new grown in
+    let more = no_shorter old new grown in
     let low = h.0 in (
       omega (arith, more, low),
       subst (λ (p : ℕ × ℕ). IsTree new depth p.0) (sym same) (tree_stays old new grown depth (pair_of old tree).0 h.1),
