@@ -9,3 +9,6 @@ pub mod ListForms
 pub mod Placing
 pub mod PageTrees
 pub mod PageCells
+pub mod Keepables
+pub mod NamedOnce
+pub mod OneConfig

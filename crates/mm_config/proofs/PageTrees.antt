@@ -20,10 +20,10 @@ past pairs depth tree at high = let long = length_leaves pairs depth tree in get
 
 -- the leaves of a tree that is twice as deep
 module _ (pairs : List (ℕ × ℕ)) (depth tree at : ℕ) where
-  in_left : at < 2 ^ depth → leaf_at pairs depth (pair_of pairs tree).0 at ≡ leaf_at pairs (suc depth) tree at
+  pub in_left : at < 2 ^ depth → leaf_at pairs depth (pair_of pairs tree).0 at ≡ leaf_at pairs (suc depth) tree at
   in_left low = leaf_left pairs (suc depth) depth tree at (pair_of pairs tree) refl refl low
 
-  in_right : 2 ^ depth ≤ at → leaf_at pairs depth (pair_of pairs tree).1 (at - 2 ^ depth) ≡ leaf_at pairs (suc depth) tree at
+  pub in_right : 2 ^ depth ≤ at → leaf_at pairs depth (pair_of pairs tree).1 (at - 2 ^ depth) ≡ leaf_at pairs (suc depth) tree at
   in_right high = leaf_right pairs (suc depth) depth tree at (pair_of pairs tree) refl refl high
 
 -- a tree without leaves has the name 0
