@@ -7,3 +7,11 @@ pub mod EventForms
 pub mod States
 pub mod Revising
 pub mod Turned
+pub mod CellForms
+pub mod ListForms
+pub mod Placing
+pub mod PageTrees
+pub mod PageCells
+pub mod Keepables
+pub mod NamedOnce
+pub mod OneConfig

@@ -1,9 +1,9 @@
 -- Slots and queues as numbers: the forms in which they are kept.
-use Rattle.std.specs.Prelude.{ℕ, zero, suc, ◌+◌, ◌*◌, ◌-◌, ◌/◌, ◌%◌, Bool, true, false, not, ◌&&◌, ◌==◌, nat_lt}
+use Rattle.std.specs.Prelude.{◌≡◌, ℕ, zero, suc, ◌+◌, ◌*◌, ◌-◌, ◌/◌, ◌%◌, Bool, true, false, not, ◌&&◌, ◌==◌, nat_lt, nat_le}
 use Rattle.std.specs.Prelude.{if◌then◌else◌, List, [], ◌∷◌, ◌++◌, map, length, unwrap_or, Option, Some, None}
 use Rattle.std.specs.List.{flat_map}
 use Rattle.mm_word.specs.declared.{cause.Cause.TheVariants.NotPointer, perm.Perm.TheVariants.Key}
-use Rattle.mm_word.specs.{declared.word.Word.{Word, TheVariants.{Int, Ptr}}, Cause.{number_of, cause_of}}
+use Rattle.mm_word.specs.{declared.word.{Word.{Word, TheVariants.{Int, Ptr}}, Cell.Cell}, Cause.{number_of, cause_of}}
 use Rattle.mm_word.specs.{Perm.can_fetch, Pointer.{Pointer, pointer_of, bits_of, spells_pointer}}
 use Rattle.mm_word.specs.Word.{word_bits, is_pointer}
 use Rattle.mm_model.specs.declared.slot.SlotState.{SlotState, TheVariants.{Running, Waiting, Taken, Halted}}
@@ -148,3 +148,17 @@ abbrev pub queue_from : List ℕ → List Event
 queue_from (slot ∷ cause ∷ ip ∷ addr_tag ∷ addr ∷ value_tag ∷ value ∷ ns) =
     (event_from (slot ∷ cause ∷ ip ∷ addr_tag ∷ addr ∷ value_tag ∷ value ∷ ns)).0 ∷ queue_from ns
 queue_from _ = []
+
+-- 5. A cell.
+
+-- the bits of the word, and a number for whether the cell is full and the word a pointer
+abbrev pub cell_form : Cell → ℕ × ℕ
+cell_form c = (word_bits c.word, one_if c.full + 2 * one_if (is_pointer c.word))
+
+abbrev pub cell_from : ℕ × ℕ → Cell
+cell_from x = record { word = word_of (nat_le 2 x.1) x.0; full = x.1 % 2 == 1 }
+
+-- the form of a cell other than that of zeros
+pub record IsCellForm (x : ℕ × ℕ) : Type 0 where
+  pub again : cell_form (cell_from x) ≡ x
+  pub some : x ≡ (0, 1) → ⊥

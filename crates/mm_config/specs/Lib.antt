@@ -2,6 +2,8 @@ pub mod Configurations
 pub mod StateNumbers
 pub mod States
 pub mod Forms
-pub mod Parts
+pub mod Places
+pub mod Naming
+pub mod Noting
 pub mod Machines
 pub mod Keeping

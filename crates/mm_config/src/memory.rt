@@ -1,78 +1,15 @@
-//! Memories as trees of pages, each of which is a tree of cells.
+//! Noting what a turn changed of the memory.
+
+ghost use Rattle.std.specs.Prelude.{◌≡◌, ◌<◌, ◌^◌, ◌%◌, OnOk};
+ghost use Rattle.mm_model.specs.Memory.{Memory as MemoryValue};
+ghost use Rattle.mm_config.specs.Naming.{AreMemoryNames, IsTreeOfPages};
+ghost use Rattle.mm_config.specs.Noting.{IsKeptStill, HasOtherPages, IsWrittenAt, HasOtherPage};
 
 use crate::names::Names;
+use crate::pages::{DEPTH, page_of, put_page};
 use crate::store::Store;
 use mm_mem::{Inspect, Memory, PlainMem};
-use mm_model::{CELLS, Page};
-use mm_word::Cell;
-use std::alloc::{AllocError, Global};
-
-/// The depth of the tree of the cells of a page.
-pub(crate) const DEPTH: u32 = 9;
-
-/// The name of the cells of a page.
-fn name_cells(alloc: Global, store: &mut Store, cells: &[Cell]) -> Result<u32, AllocError> {
-    let mut names = Vec::with_capacity(alloc, cells.len())?;
-    for cell in cells {
-        names.push(store.name_cell(cell)?)?;
-    }
-    while names.len() > 1 {
-        for at in 0..names.len() / 2 {
-            names[at] = store.pairs.join(names[2 * at], names[2 * at + 1])?;
-        }
-        names.truncate(names.len() / 2);
-    }
-    Ok(names[0])
-}
-
-/// The tree of pages with this name for one. A page that is not mapped has the name 0, and any other the pair of 1 and of
-/// its cells.
-fn put_page(store: &mut Store, names: &mut Names, number: u64, page: u32) -> Result<(), AllocError> {
-    let place = store.place_of(number)?;
-    while place >> names.height != 0 {
-        names.pages = store.pairs.join(names.pages, 0)?;
-        names.height += 1;
-    }
-    names.pages = store.pairs.with_leaf(names.pages, names.height, u64::from(place), page)?;
-    lower(store, names);
-    Ok(())
-}
-
-/// Makes the tree of pages no deeper than its last page asks.
-fn lower(store: &Store, names: &mut Names) {
-    while names.height > 0 {
-        let (left, right) = store.pairs.parts(names.pages);
-        if right != 0 {
-            return;
-        }
-        names.pages = left;
-        names.height -= 1;
-    }
-}
-
-/// The name of a page.
-fn page_of(store: &mut Store, names: &Names, number: u64) -> Result<u32, AllocError> {
-    let place = store.place_of(number)?;
-    if place >> names.height != 0 {
-        return Ok(0);
-    }
-    Ok(store.pairs.leaf(names.pages, names.height, u64::from(place)))
-}
-
-/// Notes the pages of an image.
-pub(crate) fn note_pages(
-    alloc: Global,
-    store: &mut Store,
-    names: &mut Names,
-    pages: &[Page],
-) -> Result<(), AllocError> {
-    for page in pages {
-        let cells = name_cells(alloc, store, page.cells())?;
-        let name = store.pairs.join(1, cells)?;
-        put_page(store, names, page.number(), name)?;
-    }
-    Ok(())
-}
+use std::alloc::AllocError;
 
 /// Notes the page that was mapped or unmapped, given the pages that were mapped before, which are brought up to date.
 pub(crate) fn note_page(
@@ -110,36 +47,23 @@ pub(crate) fn note_cell(
     names: &mut Names,
     mem: &PlainMem,
     word: u64,
-) -> Result<(), AllocError> {
+) -> Result<(), AllocError>
+    requires aligned { word % 8 ≡ 0 }
+    requires small { word < 2 ^ 54 }
+    requires tree { IsTreeOfPages store.old names.old }
+    ensures names { OnOk result ((m : MemoryValue) → IsWrittenAt word m mem.now.memory → AreMemoryNames store.old m names.old
+        → AreMemoryNames store.new mem.now.memory names.new) }
+    ensures still { OnOk result (IsKeptStill store.old store.new) }
+    ensures others { OnOk result (HasOtherPages names.old names.new) }
+{
     let Some(cell) = mem.peek(word) else {
         return Ok(());
     };
     let number = word / 4096;
-    let page = page_of(store, names, number)?;
+    let page = page_of(store, names, number);
     let (_, cells) = store.pairs.parts(page);
-    let name = store.name_cell(&cell)?;
+    let name = store.cells.name(&cell)?;
     let cells = store.pairs.with_leaf(cells, DEPTH, word % 4096 / 8, name)?;
     let page = store.pairs.join(1, cells)?;
     put_page(store, names, number, page)
-}
-
-/// Trees of pages of the same depth: those of the machine, and those that are wanted.
-pub(crate) fn same_height(
-    store: &mut Store,
-    now: &Names,
-    wanted: &Names,
-) -> Result<(u32, u32, u32), AllocError> {
-    let height = now.height.max(wanted.height);
-    let was = raised(store, now.pages, now.height, height)?;
-    let pages = raised(store, wanted.pages, wanted.height, height)?;
-    Ok((was, pages, height))
-}
-
-/// A tree made deeper, with nothing in its new places.
-fn raised(store: &mut Store, tree: u32, depth: u32, wanted: u32) -> Result<u32, AllocError> {
-    let mut tree = tree;
-    for _k in depth..wanted {
-        tree = store.pairs.join(tree, 0)?;
-    }
-    Ok(tree)
 }

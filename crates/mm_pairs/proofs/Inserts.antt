@@ -1,13 +1,43 @@
 -- What stands once among what is kept, and what one key more leaves.
-use Rattle.std.proofs.Common.{◌≡◌, ℕ, zero, suc, ◌+◌, ◌<◌, ◌≤◌, Bool, true, false, ◌&&◌, nat_eq, List, [], ◌∷◌, ◌++◌, map, length, take, slice_get, slice_index_or, if◌then◌else◌, Some}
+use Rattle.std.proofs.Common.{◌≡◌, ℕ, zero, suc, ◌+◌, ◌<◌, ◌≤◌, Bool, true, false, ◌&&◌, nat_eq, List, [], ◌∷◌, ◌++◌, map, length, take, slice_get, slice_index_or, position, if◌then◌else◌, Some, inl, inr, ◌-◌}
 use Rattle.std.proofs.Common.{refl, sym, ap, ◌∙◌, subst, arith, eqb-true, eq-eqb}
 use Rattle.std.proofs.Math.Seq.{take-length, take-append_seam}
-use Rattle.std.proofs.lemmas.{List.{length-map, map-append}, Option.{get_or_from_slice_get, slice_get-map, slice_get_within}}
+use Rattle.std.proofs.lemmas.{List.{length-map, map-append, Quantifiers.position-Some}, Option.{get_or_from_slice_get, slice_get-get_or, slice_get-map, slice_get_cases, slice_get_within}}
 use Rattle.std.specs.{List.{IsDistinct, AllByRecursion, list_any}, Option.option_map}
 use Rattle.indexmap.specs.IndexSet.{insert_key}
 use Rattle.mm_pairs.specs.Named.{named, HasGrown, HaveOneName, IsNameOf}
 
--- keys of any kind, each of which stands for a value
+-- 1. What is at the place of a name.
+
+module _ {K A : Type 0} (f : K → A) (none : A) (keys : List K) where
+  pub named_at : (at : ℕ) (k : K) (x : A) → slice_get keys at ≡ Some k → f k ≡ x → IsNameOf none (map f keys) (at + 1) x
+  named_at at k x got is =
+      let within = slice_get_within keys at k got in
+      let long = length-map keys f in
+      let next : at + 1 ≡ suc at = omega arith in
+      record {
+        within = omega (arith, within, long);
+        is = ap (named none (map f keys)) next ∙ get_or_from_slice_get (map f keys) at (f k) none (slice_get-map f keys at ∙ ap (option_map f) got) ∙ is;
+      }
+
+  pub named_before : (name : ℕ) (d : K) → (name ≡ 0 → ⊥) → name ≤ length (map f keys) → f (slice_index_or keys (name - 1) d) ≡ named none (map f keys) name
+  named_before zero d some le = absurd (some refl)
+  named_before (suc at) d some le =
+      let before : suc at - 1 ≡ at = omega arith in
+      let long = length-map keys f in
+      ap (λ n. f (slice_index_or keys n d)) before
+      ∙ sym (get_or_from_slice_get (map f keys) at (f (slice_index_or keys at d)) none (slice_get-map f keys at ∙ ap (option_map f) (slice_get-get_or keys at d (omega (arith, le, long)))))
+
+-- the key at the first place that passes a test
+pub found_at : {K : Type 0} (test : K → Bool) (keys : List K) (at : ℕ) → at < length keys → position test keys ≡ Some at
+    → (k : K) × (slice_get keys at ≡ Some k) × (test k ≡ true)
+found_at test keys at lt first = elim ((slice_get_cases keys at).1) [
+  | inl w ↦ (w.0, w.2, subst (λ k. test k ≡ true) w.3 (position-Some test keys at w.0 first).1)
+  | inr w ↦ let high = w.0 in absurd (omega (arith, high, lt))
+]
+
+-- 2. Keys of any kind, each of which stands for a value.
+
 module _ {K A : Type 0} (eq : K → K → Bool) (f : K → A) (none : A) (P : K → Type 0) where
   module _ (tells : (k l : K) → P k → P l → f k ≡ f l → eq k l ≡ true) (some : (k : K) → P k → f k ≡ none → ⊥) where
     elsewhere : (k : K) (ks : List K) → P k → AllByRecursion P ks → AllByRecursion (λ l. eq k l ≡ false) ks
@@ -52,16 +82,7 @@ module _ {K A : Type 0} (eq : K → K → Bool) (f : K → A) (none : A) (P : K 
 
     -- what the key stands for has the name of its place
     pub is_named : ((l : K) → eq k l ≡ true → f l ≡ f k) → (at : ℕ) → ((l : K) × (slice_get now at ≡ Some l) × (eq k l ≡ true)) → IsNameOf none (map f now) (at + 1) (f k)
-    is_named same at stored =
-        let within = slice_get_within now at stored.0 stored.1 in
-        let long = length-map now f in
-        let next : at + 1 ≡ suc at = omega arith in
-        record {
-          within = omega (arith, within, long);
-          is = ap (named none (map f now)) next
-              ∙ get_or_from_slice_get (map f now) at (f stored.0) none (slice_get-map f now at ∙ ap (option_map f) stored.1)
-              ∙ same stored.0 stored.2;
-        }
+    is_named same at stored = named_at f none now at stored.0 (f k) stored.1 (same stored.0 stored.2)
 
     -- what was kept stays
     pub has_grown : HasGrown (map f keys) (map f now)
@@ -71,7 +92,8 @@ module _ {K A : Type 0} (eq : K → K → Bool) (f : K → A) (none : A) (P : K 
         by true = take-length (map f keys)
         by false = ap (take (length (map f keys))) (map-append f keys (k ∷ [])) ∙ take-append_seam (map f keys) (f k ∷ [])
 
--- pairs of numbers by their test
+-- 3. Pairs of numbers by their test.
+
 abbrev pub same_pair : ℕ × ℕ → ℕ × ℕ → Bool
 same_pair x y = nat_eq x.0 y.0 && nat_eq x.1 y.1
 

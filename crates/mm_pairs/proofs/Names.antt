@@ -1,24 +1,34 @@
 -- What stays of names when more pairs are kept, trees with another leaf, and that trees with the same leaves are the same.
 use Rattle.std.proofs.Common.{◌≡◌, ℕ, zero, suc, ◌-◌, ◌^◌, ◌<◌, ◌≤◌, List, ◌++◌, length, take, drop, slice_index_or, slice_set}
 use Rattle.std.proofs.Common.{refl, sym, ap, ◌∙◌, subst, arith, length-append}
-use Rattle.std.proofs.lemmas.List.{get_or-take, get_or_append_left, get_or-append_right, set-append_left, set-append_right, length-take}
+use Rattle.std.proofs.lemmas.List.{get_or-take, get_or_append_left, get_or-append_right, set-append_left, set-append_right, length-take, take-take}
 use Rattle.std.proofs.Math.{Nat.pow-suc, Seq.{take-append_seam, drop-append_seam}}
-use Rattle.mm_pairs.specs.{Named.{HasGrown, HaveOneName, IsNameOf}, Trees.{pair_of, leaves, IsTree, HasLeaves, TreesAreApart}}
+use Rattle.mm_pairs.specs.{Named.{named, HasGrown, HaveOneName, IsNameOf}, Trees.{pair_of, leaves, IsTree, HasLeaves, TreesAreApart}}
 
 -- 1. What stays.
 
-pub pair_stays : (old new : List (ℕ × ℕ)) → HasGrown old new → (name : ℕ) → name ≤ length old → pair_of new name ≡ pair_of old name
-pair_stays old new grown zero le = refl
-pair_stays old new grown (suc at) le =
-    sym (get_or-take (length old) new at (0, 0) (omega (arith, le))) ∙ ap (λ (l : List (ℕ × ℕ)). slice_index_or l at (0, 0)) grown
-
-pub no_shorter : (old new : List (ℕ × ℕ)) → HasGrown old new → length old ≤ length new
+pub no_shorter : {A : Type 0} (old new : List A) → HasGrown old new → length old ≤ length new
 no_shorter old new grown = let long = length-take (length old) new in let same = ap length grown in omega (arith, long, same)
+
+pub grown_twice : {A : Type 0} (old mid new : List A) → HasGrown old mid → HasGrown mid new → HasGrown old new
+grown_twice old mid new first later =
+    sym (take-take (length old) (length mid) new (no_shorter old mid first)) ∙ ap (take (length old)) later ∙ first
+
+module _ {A : Type 0} (none : A) (old new : List A) (grown : HasGrown old new) where
+  pub named_stays : (name : ℕ) → name ≤ length old → named none new name ≡ named none old name
+  named_stays zero le = refl
+  named_stays (suc at) le = sym (get_or-take (length old) new at none (omega (arith, le))) ∙ ap (λ l. slice_index_or l at none) grown
+
+  pub name_stays : (name : ℕ) (x : A) → IsNameOf none old name x → IsNameOf none new name x
+  name_stays name x h = record {
+    within = let more = no_shorter old new grown in let low = h.within in omega (arith, more, low);
+    is = named_stays name h.within ∙ h.is;
+  }
 
 pub tree_stays : (old new : List (ℕ × ℕ)) → HasGrown old new → (depth tree : ℕ) → IsTree old depth tree → IsTree new depth tree
 tree_stays old new grown zero tree h = tt
 tree_stays old new grown (suc depth) tree h =
-    let same = pair_stays old new grown tree h.0 in
+    let same = named_stays (0, 0) old new grown tree h.0 in
     let more = no_shorter old new grown in
     let low = h.0 in (
       omega (arith, more, low),
@@ -29,7 +39,7 @@ tree_stays old new grown (suc depth) tree h =
 pub leaves_stay : (old new : List (ℕ × ℕ)) → HasGrown old new → (depth tree : ℕ) → IsTree old depth tree → leaves new depth tree ≡ leaves old depth tree
 leaves_stay old new grown zero tree h = refl
 leaves_stay old new grown (suc depth) tree h =
-    ap (λ (p : ℕ × ℕ). leaves new depth p.0 ++ leaves new depth p.1) (pair_stays old new grown tree h.0)
+    ap (λ (p : ℕ × ℕ). leaves new depth p.0 ++ leaves new depth p.1) (named_stays (0, 0) old new grown tree h.0)
     ∙ ap (λ l. l ++ leaves new depth (pair_of old tree).1) (leaves_stay old new grown depth (pair_of old tree).0 h.1)
     ∙ ap (λ l. leaves old depth (pair_of old tree).0 ++ l) (leaves_stay old new grown depth (pair_of old tree).1 h.2)
 
@@ -71,7 +81,7 @@ trees_apart pairs apart (suc depth) a b ta tb e =
 -- 3. A tree of two.
 
 -- two trees, one of which was there before, joined
-joined : (mid new : List (ℕ × ℕ)) (depth left right t : ℕ) (xs ys : List ℕ) → HasGrown mid new → HasLeaves mid depth left xs
+pub joined : (mid new : List (ℕ × ℕ)) (depth left right t : ℕ) (xs ys : List ℕ) → HasGrown mid new → HasLeaves mid depth left xs
     → HasLeaves mid depth right ys → IsNameOf (0, 0) new t (left, right) → HasLeaves new (suc depth) t (xs ++ ys)
 joined mid new depth left right t xs ys grown l r name = record {
   inner = (
