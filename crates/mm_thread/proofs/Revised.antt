@@ -3,7 +3,7 @@ use Rattle.std.proofs.Common.{◌≡◌, ◌≢◌, ℕ, zero, suc, ◌+◌, ◌
 use Rattle.std.proofs.Common.{map, take, get_or, set, refl, sym, ap, subst, ◌∙◌, arith}
 use Rattle.std.proofs.lemmas.{Bool.ne_eqb, List.{get_or-map, length-map, length-set, set-get_or, take_all}, Nat.and_mask}
 use Rattle.std.specs.{Prelude.{if◌then◌else◌, ◌==◌}, List.AllByRecursion}
-use Rattle.mm_model.specs.{declared.event.Event.Event, Flags.flags, Slot.Slot, State.{ThreadRow, Core, output_of, put_output}}
+use Rattle.mm_model.specs.{declared.event.Event.Event, Flags.flags, Slot.Slot, State.{ThreadRow, Core, put_output}}
 use Rattle.mm_model.{specs.Fits.{identity_of, slots_of}, proofs.FlagLists.flags-get}
 use Rattle.mm_thread.specs.SlotIndices.{no_slot, no_row, slot_in, with_slot, with_queue_in}
 use Rattle.mm_thread.specs.Revisions.{with_slots, with_queues}

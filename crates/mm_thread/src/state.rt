@@ -25,7 +25,9 @@ ghost use Rattle.mm_thread.specs.StepAccesses.{accesses_in, accesses_shown};
 use crate::build::{no_outputs, rows_of};
 use crate::item::take_item;
 use crate::output::Output;
-use crate::restore::{Revision, extend_outputs, put_changed, put_events, put_outputs, put_queues, put_slots};
+use crate::restore::{
+    Revision, extend_outputs, put_changed, put_events, put_outputs, put_queues, put_slots,
+};
 use crate::tables::Tables;
 use mm_mem::Memory;
 use mm_model::{Event, Slot, Step, Tick};

@@ -1,5 +1,5 @@
 use Rattle.std.proofs.Common.{sym, ap, ◌∙◌, arith}
-use Rattle.mm_model.specs.{Fits.identity_of, Slot.Slot}
+use Rattle.mm_model.specs.{Fits.identity_of}
 use Rattle.mm_thread.proofs.Revised.{same_at, put_long, put_here, put_one, put_none, put_all}
 use Rattle.mm_thread.proofs.restore.put_changed.Goals.{then-changed-at-eq1, else-changed-at-eq1}
 use Rattle.mm_thread.proofs.restore.put_changed.Goals as goal

@@ -1,6 +1,6 @@
 use Rattle.std.proofs.Common.{◌≡◌, ◌+◌, ◌<◌, ◌≤◌, ℕ, List, length, map, sym, ap, subst, ◌∙◌, arith}
 use Rattle.std.specs.List.{AllByRecursion}
-use Rattle.mm_model.specs.{declared.event.Event.Event, Flags.flags, Slot.Slot, State.Core, Fits.{identity_of, slots_of, IsCore}}
+use Rattle.mm_model.specs.{declared.event.Event.Event, Flags.flags, State.Core, Fits.{identity_of, slots_of, IsCore}}
 use Rattle.mm_model.proofs.CoreRows.{each_map}
 use Rattle.mm_thread.specs.Revisions.{with_slots, with_queues, with_outputs, queue_in_place, extension, Extension, queues_in, outputs_in, revised}
 use Rattle.mm_thread.proofs.Revised.{slots_long, slots_many, queues-outputs}

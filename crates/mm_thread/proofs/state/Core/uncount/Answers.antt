@@ -1,6 +1,6 @@
-use Rattle.std.proofs.Common.{◌<◌, length, sym, ap, ◌∙◌, subst, arith}
+use Rattle.std.proofs.Common.{length, sym, ap, subst, arith}
 use Rattle.std.proofs.lemmas.List.{length-map}
-use Rattle.mm_model.specs.{Slot.Slot, State.{ThreadRow, Core}, Fits.{slots_of, IsCore}}
+use Rattle.mm_model.specs.{State.{ThreadRow, Core}, Fits.{slots_of, IsCore}}
 use Rattle.mm_thread.proofs.Sound.{uncounted_whole}
 use Rattle.mm_thread.proofs.state.Core.uncount.Goals as goal
 
