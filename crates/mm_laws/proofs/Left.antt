@@ -1,16 +1,16 @@
 -- What each shape of a turn leaves as it was.
-use Rattle.std.proofs.Common.{◌≡◌, ◌≢◌, inl, inr, ℕ, ◌<◌, ◌≤◌, Bool, true, false, List, [], ◌∷◌, ◌++◌, length, Option}
-use Rattle.std.proofs.Common.{Some, None, refl, sym, ap, ◌∙◌, subst, arith, slice_index_or, slice_set}
+use Rattle.std.proofs.Common.{◌≡◌, ◌≢◌, inl, inr, ℕ, Bool, true, false, List, [], ◌∷◌, ◌++◌, length, Option}
+use Rattle.std.proofs.Common.{Some, None, refl, sym, ap, ◌∙◌, subst, slice_index_or, slice_set}
 use Rattle.std.proofs.Common.{get_or-set_same, get_or-set_other}
 use Rattle.std.proofs.lemmas.{Bool.{cases_eq, cases_lt}, List.set_past}
-use Rattle.std.specs.Prelude.{if◌then◌else◌, ◌&&◌}
+use Rattle.std.specs.Prelude.{if◌then◌else◌}
 use Rattle.mm_word.specs.{declared.{cause.Cause.Cause, word.Word.{Word, TheVariants.Int}}, Access.AccessValue}
 use Rattle.mm_isa.specs.declared.instr.Instr.{Instr}
-use Rattle.mm_model.specs.declared.slot.{SlotState.{SlotState, TheVariants.{Running, Waiting, Halted}}, Pending.Pending}
+use Rattle.mm_model.specs.declared.slot.{SlotState.{TheVariants.{Running, Waiting, Halted}}, Pending.Pending}
 use Rattle.mm_model.specs.declared.{event.Event.Event, step.Tick.{Tick, TheVariants.{Blocked, Did, Faulted, Delivered}}}
 use Rattle.mm_model.specs.{Memory.Memory, Uses.Use, Slot.Slot}
 use Rattle.mm_model.specs.State.{ThreadRow, Core, row_in, slot_of, queue_of, slot_at, queue_at, put_slot, put_queue, output_of, put_output}
-use Rattle.mm_model.specs.{Operands.{addr_operand, value_operand, lacks}, Ask.ask}
+use Rattle.mm_model.specs.{Operands.{addr_operand, value_operand}, Ask.ask}
 use Rattle.mm_model.specs.Effect.{Change, Effect, effect, delivered, Effect.{Fault, Block, Deliver, Do}}
 use Rattle.mm_model.specs.Turn.{Turned, reply, slot_after, with_other, with_queue, with_out, core_after, stood, is_sync}
 use Rattle.mm_model.specs.Turn.{event_of, core_faulted, faulted, touch_of, asked_use, blocked, ended, executed, idle}
@@ -19,12 +19,12 @@ use Rattle.mm_model.specs.Fits.{IsFormed, Matches}
 use Rattle.mm_model.proofs.CoreRows.{slot_at-put_same, slot_at-put_other, queue_at-put_slot, slot_at-put_queue}
 use Rattle.mm_model.proofs.CoreRows.{queue_at-put_same, queue_at-put_other}
 use Rattle.mm_model.proofs.{SlotSteps.delivered_from, CoreSteps.{Replaces, waited}}
-use Rattle.mm_model.proofs.EffectSteps.{OtherKeeps, EventTaken, Moves, ChangeKeeps, EffectKeeps}
+use Rattle.mm_model.proofs.EffectSteps.{OtherKeeps, Moves, EffectKeeps}
 use Rattle.mm_model.proofs.TurnKeeps.{changed_from, row_keeps, still_there, event_waited}
 use Rattle.mm_model.proofs.TurnChanges.{MemoryMoves, MemoryMoves.{Stays, Writes, Maps, Removes}, turn_changes}
 use Rattle.mm_model.proofs.TurnChanges.{SameButRows, same_output, moved_same, fault_same}
 use Rattle.mm_model.proofs.TurnShapes.{fetch_uses, fetch_use, started_one, turn_by}
-use Rattle.mm_laws.specs.Frames.{IsServed, TakesOldest, GetsEvent, PutsByte, MemoryLeft, LeavesTheRest}
+use Rattle.mm_laws.specs.Frames.{MemoryLeft, LeavesTheRest}
 use Rattle.mm_laws.specs.Frames.{SlotLeft, QueueLeft, OutputLeft}
 
 -- 1. What a turn leaves of a core.
@@ -62,14 +62,14 @@ module _ (core : Core) (by : ℕ) (s : Slot) (number : s.number ≡ by) where
     | inl own ↦ SlotLeft.Own own
     | inr ne ↦ elim (cases_eq n o.number) [
       | inl e ↦ SlotLeft.Served (record {
-          before = v.replaces.old;
-          after = o;
-          was = ap (slot_at core) e ∙ v.replaces.stands;
-          is = same n ne ∙ ap (slot_at (put_slot core o)) e ∙ slot_at-put_same core o v.replaces.old v.replaces.stands;
-          handler = v.handler;
-          rests = v.rests;
-          turns = sym v.turns;
-        })
+        before = v.replaces.old;
+        after = o;
+        was = ap (slot_at core) e ∙ v.replaces.stands;
+        is = same n ne ∙ ap (slot_at (put_slot core o)) e ∙ slot_at-put_same core o v.replaces.old v.replaces.stands;
+        handler = v.handler;
+        rests = v.rests;
+        turns = sym v.turns;
+      })
       | inr other ↦ SlotLeft.Same (same n ne ∙ slot_at-put_other core o n other)
     ]
   ]
@@ -114,14 +114,14 @@ byte_leaves core k same s at byte g =
     elim (cases_eq g s.group) [
       | inl own ↦ elim (cases_lt s.group (length k.outputs)) [
         | inl inside ↦ OutputLeft.Put (record {
-            slot = s;
-            there = at;
-            group = sym own;
-            byte = byte;
-            is = ap (λ j. slice_index_or (slice_set k.outputs s.group bytes) j []) own ∙ get_or-set_same k.outputs s.group bytes [] inside
-                ∙ ap (λ (l : List (List ℕ)). slice_index_or l s.group [] ++ byte ∷ []) same.outputs
-                ∙ ap (λ j. slice_index_or core.outputs j [] ++ byte ∷ []) (sym own);
-          })
+          slot = s;
+          there = at;
+          group = sym own;
+          byte = byte;
+          is = ap (λ j. slice_index_or (slice_set k.outputs s.group bytes) j []) own ∙ get_or-set_same k.outputs s.group bytes [] inside
+              ∙ ap (λ (l : List (List ℕ)). slice_index_or l s.group [] ++ byte ∷ []) same.outputs
+              ∙ ap (λ j. slice_index_or core.outputs j [] ++ byte ∷ []) (sym own);
+        })
         | inr past ↦ OutputLeft.Same (ap (λ (l : List (List ℕ)). slice_index_or l g []) (set_past k.outputs s.group bytes past) ∙ was)
       ]
       | inr ne ↦ OutputLeft.Same (get_or-set_other k.outputs s.group g bytes [] ne ∙ was)

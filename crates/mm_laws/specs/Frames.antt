@@ -1,5 +1,5 @@
 -- What a turn leaves as it was.
-use Rattle.std.specs.Prelude.{◌≡◌, ℕ, Bool, true, false, List, [], ◌∷◌, ◌++◌, Option, Some, None}
+use Rattle.std.specs.Prelude.{◌≡◌, ℕ, true, false, List, [], ◌∷◌, ◌++◌, Option, Some, None}
 use Rattle.mm_word.specs.{declared.{cause.Cause.Cause, word.Cell.Cell}, Access.AccessValue}
 use Rattle.mm_model.specs.declared.{event.Event.Event, step.Tick.{Tick, TheVariants.Faulted}}
 use Rattle.mm_model.specs.Memory.{Memory, put_cell, is_mapped, can_map, map_page, unmap_page}
