@@ -147,19 +147,20 @@ impl Configs {
         ensures { IfOk result (λ looked. (i : ImageValue) (v : ConfigsValue) → Stands i v self.old
             → (now : ConfigsValue) × Stands i now self.new × Keeps limit looked v now) }
     {
+        self.store.apart();
         let key = (self.names.slots, self.rest);
         if self.kept.len() >= limit {
-            return match self.kept.get_index_of(&key) {
-                Some(at) => Ok(Looked::Known(at as u32)),
-                None => Ok(Looked::Full),
-            };
+            return Ok(match self.kept.get_index_of(&key) {
+                Some(at) => Looked::Known(at as u32),
+                None => Looked::Full,
+            });
         }
         let (at, new) = self.kept.insert_full(key)?;
-        if new {
-            Ok(Looked::New)
+        Ok(if new {
+            Looked::New
         } else {
-            Ok(Looked::Known(at as u32))
-        }
+            Looked::Known(at as u32)
+        })
     }
 
     /// The slots in which two configurations that were kept differ, by their indices, the first in the lowest bit.
