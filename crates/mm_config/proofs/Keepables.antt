@@ -1,6 +1,6 @@
 -- Slots and events of the states of an image can be kept as numbers.
 use Rattle.std.proofs.Common.{◌≡◌, ℕ, ◌<◌, List, [], ◌∷◌, map, Option, Some, None, refl, sym, ap, ◌∙◌, subst, arith, true}
-use Rattle.std.specs.{Prelude.{◌≢◌, zip}, List.{AllByRecursion, IsStrictlyIncreasing}}
+use Rattle.std.specs.{Prelude.{◌≢◌, zip}, List.{AllByRecursion, Sorted.IsStrictlyIncreasing}}
 use Rattle.mm_word.specs.Word.{IsWord}
 use Rattle.mm_model.specs.{declared.{event.Event.Event, slot.Pending.Pending}, Slot.Slot, Image.{Image, slot_limit}}
 use Rattle.mm_model.specs.State.{ThreadRow, Core, State, slot_at, queue_at, row_in, queue_of}

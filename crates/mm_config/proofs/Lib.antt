@@ -12,3 +12,4 @@ pub mod PageCells
 pub mod Keepables
 pub mod NamedOnce
 pub mod OneConfig
+pub mod Noted

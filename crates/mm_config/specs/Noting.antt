@@ -14,6 +14,12 @@ pub record IsKeptStill (old new : Store) : Type 0 where
   pub cells : HasGrown old.cells new.cells
   pub pages : HasGrown old.pages new.pages
 
+-- with more trees, and more cells
+pub record HasMoreCells (old new : Store) : Type 0 where
+  pub pairs : HasGrown old.pairs new.pairs
+  pub cells : HasGrown old.cells new.cells
+  pub others : new ≡ record old { pairs = new.pairs; cells = new.cells }
+
 -- names are as before, but for the tree of pages
 abbrev pub HasOtherPages : Names → Names → Type 0
 HasOtherPages old new = new ≡ record old { height = new.height; pages = new.pages }

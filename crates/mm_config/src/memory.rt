@@ -1,8 +1,8 @@
 //! Noting what a turn changed of the memory.
 
-ghost use Rattle.std.specs.Prelude.{◌≡◌, ◌<◌, ◌^◌, ◌%◌, OnOk};
-ghost use Rattle.mm_model.specs.Memory.{Memory as MemoryValue};
-ghost use Rattle.mm_config.specs.Naming.{AreMemoryNames, IsTreeOfPages};
+ghost use Rattle.std.specs.Prelude.{◌≡◌, ◌⊎◌, ℕ, ◌<◌, ◌≤◌, ◌^◌, ◌%◌, OnOk, length, map};
+ghost use Rattle.mm_model.specs.Memory.{Memory as MemoryValue, IsPaged};
+ghost use Rattle.mm_config.specs.Naming.{AreMemoryNames};
 ghost use Rattle.mm_config.specs.Noting.{IsKeptStill, HasOtherPages, IsWrittenAt, HasOtherPage};
 
 use crate::names::Names;
@@ -50,9 +50,8 @@ pub(crate) fn note_cell(
 ) -> Result<(), AllocError>
     requires aligned { word % 8 ≡ 0 }
     requires small { word < 2 ^ 54 }
-    requires tree { IsTreeOfPages store.old names.old }
-    ensures names { OnOk result ((m : MemoryValue) → IsWrittenAt word m mem.now.memory → AreMemoryNames store.old m names.old
-        → AreMemoryNames store.new mem.now.memory names.new) }
+    requires known { (m : MemoryValue) × IsWrittenAt word m mem.now.memory × AreMemoryNames store.old m names.old }
+    ensures names { OnOk result (AreMemoryNames store.new mem.now.memory names.new) }
     ensures still { OnOk result (IsKeptStill store.old store.new) }
     ensures others { OnOk result (HasOtherPages names.old names.new) }
 {

@@ -1,0 +1,148 @@
+-- The names of a memory with another cell, and with another page.
+use Rattle.std.proofs.Common.{◌≡◌, ◌≢◌, inl, inr, ℕ, zero, suc, ◌+◌, ◌*◌, ◌/◌, ◌%◌, ◌^◌, ◌<◌, ◌≤◌, Bool, true, false, nat_eq, if◌then◌else◌, List, [], ◌∷◌, length, slice_get, slice_set, Option, Some, None}
+use Rattle.std.proofs.Common.{refl, sym, ap, ◌∙◌, subst, arith, eqb-true, eq-eqb, is_some}
+use Rattle.std.proofs.Math.Seq.{take-length}
+use Rattle.mm_word.specs.declared.word.Cell.{Cell}
+use Rattle.mm_model.specs.Memory.{Memory, page_of, place_of, page_at, cell_in, cell_at, put_cell, is_mapped, map_page, unmap_page, zero_cell, zero_page}
+use Rattle.mm_model.proofs.Memories.{cell_at-aligned, put_cell-unmapped, page_at-put_same, page_at-put_other, page_at-map_same, page_at-map_other, page_at-unmap_same, page_at-unmap_other}
+use Rattle.mm_pairs.specs.{Named.{HasGrown, IsNameOf}, Trees.{leaves, IsTree, HasLeaves}}
+use Rattle.mm_pairs.proofs.Names.{named_stays, tree_stays, grown_twice}
+use Rattle.mm_config.specs.declared.{store.Store.Store, names.Names.Names}
+use Rattle.mm_config.specs.{Naming.{IsPageName, IsOrNone, leaf_at, page_name, IsLow, IsTreeOfPages, AreMemoryNames}, Noting.{HasMoreCells, IsKeptStill, HasOtherPages, PutsPage}}
+use Rattle.mm_config.proofs.{PageCells.{page_stays, cells_set, cells_stay}, PageTrees.leaf_stays}
+use Rattle.mm_config.specs.Places.{page_place}
+use Rattle.std.proofs.lemmas.Bool.{cases_eq}
+
+-- 1. What stays.
+
+or_none : (old new : Store) → IsKeptStill old new → (o : Option (List Cell)) (name : ℕ) → IsOrNone (IsPageName old) o name → IsOrNone (IsPageName new) o name
+or_none old new still None name h = h
+or_none old new still (Some cells) name h = page_stays old new still cells name h
+
+-- a memory that has the same pages has the same names
+pub alike : (k : Store) (m now : Memory) (n : Names) → ((q : ℕ) → page_at now q ≡ page_at m q) → AreMemoryNames k m n → AreMemoryNames k now n
+alike k m now n same h = record {
+  tree = h.tree;
+  pages = λ q. subst (λ (o : Option (List Cell)). IsOrNone (IsPageName k) o (page_name k n q)) (sym (same q)) (h.pages q);
+}
+
+pub twice : (a b c : Store) → IsKeptStill a b → IsKeptStill b c → IsKeptStill a c
+twice a b c h g = record {
+  pairs = grown_twice a.pairs b.pairs c.pairs h.pairs g.pairs;
+  outputs = grown_twice a.outputs b.outputs c.outputs h.outputs g.outputs;
+  lists = grown_twice a.lists b.lists c.lists h.lists g.lists;
+  cells = grown_twice a.cells b.cells c.cells h.cells g.cells;
+  pages = grown_twice a.pages b.pages c.pages h.pages g.pages;
+}
+
+-- with more trees and cells
+module _ (k new : Store) (h : HasMoreCells k new) where
+  pub still_more : IsKeptStill k new
+  still_more = subst (IsKeptStill k) (sym h.others) (record { pairs = h.pairs; outputs = take-length k.outputs; lists = take-length k.lists; cells = h.cells; pages = take-length k.pages })
+
+  low_stays : (height tree : ℕ) → IsTree k.pairs height tree → IsLow k.pairs height tree → IsLow new.pairs height tree
+  low_stays zero tree inner low = low
+  low_stays (suc height) tree inner low = λ none. low (ap (λ (p : ℕ × ℕ). p.1) (sym (named_stays (0, 0) k.pairs new.pairs h.pairs tree inner.0)) ∙ none)
+
+  pub tree_more : (n : Names) → IsTreeOfPages k n → IsTreeOfPages new n
+  tree_more n t = subst (λ (s : Store). IsTreeOfPages s n) (sym h.others) (record {
+    inner = tree_stays k.pairs new.pairs h.pairs n.height n.pages t.inner;
+    few = t.few;
+    low = low_stays n.height n.pages t.inner t.low;
+    inside = λ at high. leaf_stays k.pairs new.pairs h.pairs n.height n.pages t.inner at ∙ t.inside at high;
+  })
+
+  pub names_more : (n : Names) (q : ℕ) → IsTreeOfPages k n → page_name new n q ≡ page_name k n q
+  names_more n q t = ap (λ (s : Store). page_name s n q) h.others ∙ leaf_stays k.pairs new.pairs h.pairs n.height n.pages t.inner (page_place k.pages q)
+
+-- 2. Another page.
+
+-- a page of a memory has another name, and the others stay
+pub put_noted : (k k1 k4 : Store) → HasMoreCells k k1 → (m now : Memory) (n0 n4 : Names) (number name : ℕ) → AreMemoryNames k m n0 → PutsPage k1 n0 number name k4 n4
+    → ((q : ℕ) → q ≢ number → page_at now q ≡ page_at m q) → IsOrNone (IsPageName k4) (page_at now number) name → AreMemoryNames k4 now n4
+put_noted k k1 k4 more m now n0 n4 number name h put other page = record {
+  tree = put.tree;
+  pages = λ q. by q (nat_eq q number) refl;
+}
+  where
+    still : IsKeptStill k k4
+    still = twice k k1 k4 (still_more k k1 more) put.still
+
+    at : (q : ℕ) (b : Bool) → nat_eq q number ≡ b → page_name k4 n4 q ≡ (if b then name else page_name k1 n0 q)
+    at q b e = put.names q ∙ ap (λ t. if t then name else page_name k1 n0 q) e
+
+    by : (q : ℕ) (b : Bool) → nat_eq q number ≡ b → IsOrNone (IsPageName k4) (page_at now q) (page_name k4 n4 q)
+    by q true e =
+        subst (λ l. IsOrNone (IsPageName k4) (page_at now q) l) (sym (at q true e))
+        (subst (λ r. IsOrNone (IsPageName k4) (page_at now r) name) (sym (eqb-true q number e)) page)
+    by q false e =
+        let ne : q ≢ number = λ same. let own = eq-eqb q number same in cc in
+        subst (λ l. IsOrNone (IsPageName k4) (page_at now q) l) (sym (at q false e ∙ names_more k k1 more n0 q h.tree))
+        (subst (λ (o : Option (List Cell)). IsOrNone (IsPageName k4) o (page_name k n0 q)) (sym (other q ne)) (or_none k k4 still (page_at m q) (page_name k n0 q) (h.pages q)))
+
+-- 3. Another cell.
+
+set_tells : (cells : List Cell) (place : ℕ) (c d : Cell) → slice_get (slice_set cells place c) place ≡ Some d → d ≡ c
+set_tells [] place c d e = cc
+set_tells (x ∷ cells) zero c d e = cc
+set_tells (x ∷ cells) (suc place) c d e = set_tells cells place c d e
+
+set_past : (cells : List Cell) (place : ℕ) (c : Cell) → slice_get (slice_set cells place c) place ≡ None → slice_set cells place c ≡ cells
+set_past [] place c e = refl
+set_past (x ∷ cells) zero c e = cc
+set_past (x ∷ cells) (suc place) c e = ap (λ l. x ∷ l) (set_past cells place c e)
+
+module _ (m now : Memory) (word : ℕ) (c : Cell) (is : now ≡ put_cell m word c) (aligned : word % 8 ≡ 0) where
+  others : (q : ℕ) → q ≢ page_of word → page_at now q ≡ page_at m q
+  others q ne = ap (λ (v : Memory). page_at v q) is ∙ page_at-put_other m word c q ne
+
+  here : (cells : List Cell) → page_at m (page_of word) ≡ Some cells → page_at now (page_of word) ≡ Some (slice_set cells (place_of word) c)
+  here cells e = ap (λ (v : Memory). page_at v (page_of word)) is ∙ page_at-put_same m word c cells e
+
+  -- without a cell there, nothing has changed
+  pub not_written : None ≡ cell_at now word → (q : ℕ) → page_at now q ≡ page_at m q
+  not_written none q = by (page_at m (page_of word)) refl
+    where
+      none_in : cell_in (page_at now (page_of word)) (place_of word) ≡ None
+      none_in = sym (none ∙ cell_at-aligned now word aligned)
+
+      by : (o : Option (List Cell)) → page_at m (page_of word) ≡ o → page_at now q ≡ page_at m q
+      by None e = ap (λ (v : Memory). page_at v q) (is ∙ put_cell-unmapped m word c e)
+      by (Some cells) e = elim (cases_eq q (page_of word)) [
+        | inl same ↦
+          let set = here cells e in
+          let none = sym (ap (λ (o : Option (List Cell)). cell_in o (place_of word)) set) ∙ none_in in
+          ap (page_at now) same ∙ set ∙ ap Some (set_past cells (place_of word) c none) ∙ sym e ∙ ap (page_at m) (sym same)
+        | inr ne ↦ others q ne
+      ]
+
+  -- with one, its page was mapped, and has it now
+  pub written : (cell : Cell) → Some cell ≡ cell_at now word
+      → (cells : List Cell) × (page_at m (page_of word) ≡ Some cells) × (page_at now (page_of word) ≡ Some (slice_set cells (place_of word) cell))
+  written cell some = by (page_at m (page_of word)) refl
+    where
+      some_in : cell_in (page_at now (page_of word)) (place_of word) ≡ Some cell
+      some_in = sym (some ∙ cell_at-aligned now word aligned)
+
+      by : (o : Option (List Cell)) → page_at m (page_of word) ≡ o
+          → (cells : List Cell) × (page_at m (page_of word) ≡ Some cells) × (page_at now (page_of word) ≡ Some (slice_set cells (place_of word) cell))
+      by None e =
+          let same = ap (λ (v : Memory). page_at v (page_of word)) (is ∙ put_cell-unmapped m word c e) ∙ e in
+          let none = sym (ap (λ (o : Option (List Cell)). cell_in o (place_of word)) same) ∙ some_in in cc
+      by (Some cells) e =
+          let set = here cells e in
+          let got = sym (ap (λ (o : Option (List Cell)). cell_in o (place_of word)) set) ∙ some_in in
+          (cells, e, set ∙ ap (λ d. Some (slice_set cells (place_of word) d)) (sym (set_tells cells (place_of word) c cell got)))
+
+pub only_others : (m now : Memory) (word : ℕ) (c : Cell) → now ≡ put_cell m word c → (q : ℕ) → q ≢ page_of word → page_at now q ≡ page_at m q
+only_others m now word c is q ne = ap (λ (v : Memory). page_at v q) is ∙ page_at-put_other m word c q ne
+
+-- the page of a word with another cell
+pub page_set : (k k4 : Store) (q1 q2 : List (ℕ × ℕ)) (kept : List Cell) (first : HasGrown k.pairs q1) (second : HasGrown q1 q2) (more : HasGrown k.cells kept)
+    → IsKeptStill (record k { pairs = q2; cells = kept }) k4
+    → (cells : List Cell) (page place name tree now : ℕ) (cell : Cell) (h : IsPageName k cells page) → IsNameOf zero_cell kept name cell
+    → HasLeaves q1 9 tree (slice_set (leaves k.pairs 9 h.tree) place name) → IsNameOf (0, 0) q2 now (1, tree) → IsPageName k4 (slice_set cells place cell) now
+page_set k k4 q1 q2 kept first second more still cells page place name tree now cell h is made made_page =
+    let one = cells_set k cells kept q1 h.tree place name tree cell h.named more is made in
+    let two = cells_stay (record k { pairs = q1; cells = kept }) (record k { pairs = q2; cells = kept }) 9 tree (slice_set cells place cell) second (take-length kept) one in
+    page_stays (record k { pairs = q2; cells = kept }) k4 still (slice_set cells place cell) now (record { tree = tree; is = made_page; named = two })
