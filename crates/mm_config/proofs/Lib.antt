@@ -13,3 +13,4 @@ pub mod Keepables
 pub mod NamedOnce
 pub mod OneConfig
 pub mod Noted
+pub mod PageLists

@@ -1,6 +1,7 @@
 -- The names of a memory with another cell, and with another page.
 use Rattle.std.proofs.Common.{◌≡◌, ◌≢◌, inl, inr, ℕ, zero, suc, ◌+◌, ◌*◌, ◌/◌, ◌%◌, ◌^◌, ◌<◌, ◌≤◌, Bool, true, false, nat_eq, if◌then◌else◌, List, [], ◌∷◌, length, slice_get, slice_set, Option, Some, None}
-use Rattle.std.proofs.Common.{refl, sym, ap, ◌∙◌, subst, arith, eqb-true, eq-eqb, is_some}
+use Rattle.std.proofs.Common.{refl, sym, ap, ◌∙◌, subst, arith, eqb-true, eq-eqb, is_some, take, T}
+use Rattle.std.specs.{Ordering.nat_cmp, FinMap.is_sorted}
 use Rattle.std.proofs.Math.Seq.{take-length}
 use Rattle.mm_word.specs.declared.word.Cell.{Cell}
 use Rattle.mm_model.specs.Memory.{Memory, page_of, place_of, page_at, cell_in, cell_at, put_cell, is_mapped, map_page, unmap_page, zero_cell, zero_page}
@@ -8,8 +9,8 @@ use Rattle.mm_model.proofs.Memories.{cell_at-aligned, put_cell-unmapped, page_at
 use Rattle.mm_pairs.specs.{Named.{HasGrown, IsNameOf}, Trees.{leaves, IsTree, HasLeaves}}
 use Rattle.mm_pairs.proofs.Names.{named_stays, tree_stays, grown_twice}
 use Rattle.mm_config.specs.declared.{store.Store.Store, names.Names.Names}
-use Rattle.mm_config.specs.{Naming.{IsPageName, IsOrNone, leaf_at, page_name, IsLow, IsTreeOfPages, AreMemoryNames}, Noting.{HasMoreCells, IsKeptStill, HasOtherPages, PutsPage}}
-use Rattle.mm_config.proofs.{PageCells.{page_stays, cells_set, cells_stay}, PageTrees.leaf_stays}
+use Rattle.mm_config.specs.{Naming.{AreCells, IsPageName, IsOrNone, leaf_at, page_name, IsLow, IsTreeOfPages, AreMemoryNames}, Noting.{HasMoreCells, IsKeptStill, HasOtherPages, PutsPage}}
+use Rattle.mm_config.proofs.{PageCells.{page_stays, cells_set, cells_stay, more_twice, more_pairs}, PageLists.page_added, PageTrees.leaf_stays}
 use Rattle.mm_config.specs.Places.{page_place}
 use Rattle.std.proofs.lemmas.Bool.{cases_eq}
 
@@ -146,3 +147,19 @@ page_set k k4 q1 q2 kept first second more still cells page place name tree now 
     let one = cells_set k cells kept q1 h.tree place name tree cell h.named more is made in
     let two = cells_stay (record k { pairs = q1; cells = kept }) (record k { pairs = q2; cells = kept }) 9 tree (slice_set cells place cell) second (take-length kept) one in
     page_stays (record k { pairs = q2; cells = kept }) k4 still (slice_set cells place cell) now (record { tree = tree; is = made_page; named = two })
+
+-- one page more of a list
+pub page_noted : (k k1 k4 : Store) (pairs : List (ℕ × ℕ)) (n0 n4 : Names) (pages : List (ℕ × List Cell)) (at : ℕ) (page : ℕ × List Cell) (tree name : ℕ)
+    → T (is_sorted nat_cmp pages) → slice_get pages at ≡ Some page → AreMemoryNames k (record { pages = take at pages; frames = 0 }) n0
+    → HasMoreCells k k1 → AreCells k1 9 tree page.1 → HasGrown k1.pairs pairs → IsNameOf (0, 0) pairs name (1, tree)
+    → PutsPage (record k1 { pairs = pairs }) n0 page.0 name k4 n4 → AreMemoryNames k4 (record { pages = take (at + 1) pages; frames = 0 }) n4
+page_noted k k1 k4 pairs n0 n4 pages at page tree name up got h more cells grown is put =
+    let k2 : Store = record k1 { pairs = pairs } in
+    let was : Memory = record { pages = take at pages; frames = 0 } in
+    let now : Memory = record { pages = take (suc at) pages; frames = 0 } in
+    let added = page_added pages up at page got in
+    let next : suc at ≡ at + 1 = omega arith in
+    let named : IsPageName k2 page.1 name = record { tree = tree; is = is; named = cells_stay k1 k2 9 tree page.1 grown (take-length k1.cells) cells } in
+    let all = put_noted k k2 k4 (more_twice k k1 k2 more (more_pairs k1 pairs grown)) was now n0 n4 page.0 name h put added.1
+    (subst (λ (o : Option (List Cell)). IsOrNone (IsPageName k4) o name) (sym added.0) (page_stays k2 k4 put.still page.1 name named)) in
+    subst (λ i. AreMemoryNames k4 (record { pages = take i pages; frames = 0 }) n4) next all

@@ -109,7 +109,7 @@ module _ (i : Image) (depth : ℕ) (k : Store) (a b : State) (n m : Names) (img 
           let keeps = all_got IsKeepablePair ours (slots_kept i a img ha) at x p in
           let kept = all_got IsKeepablePair theirs (slots_kept i b img hb) at y q in
           form_tells y.0 (uncounted_slot x.1) (uncounted_slot y.1) (subst (λ (s : Slot). IsKeepablePair (s, x.1)) base keeps) kept
-            (ap (λ (s : Slot). slot_form s x.1) (sym base) ∙ form))
+            (form_bare y.0 x.1 ∙ ap (λ (s : Slot). slot_form s x.1) (sym base) ∙ form ∙ sym (form_bare y.0 y.1)))
         ∙ zip_second i.slots (slots_of b.core) (as_many i b hb)
 
     same_queues : map (λ (r : ThreadRow). r.queue) a.core.rows ≡ map (λ (r : ThreadRow). r.queue) b.core.rows
@@ -132,7 +132,7 @@ module _ (i : Image) (depth : ℕ) (k : Store) (a b : State) (n m : Names) (img 
         sym (map-id a.core.outputs) ∙ all ∙ map-id b.core.outputs
 
     same_pages : a.memory.pages ≡ b.memory.pages
-    same_pages = same_entries nat_cmp nat_cmp_total nat_cmp-IsAntisymmetric a.memory.pages b.memory.pages ha.state.pages.rising hb.state.pages.rising (λ number.
+    same_pages = same_entries nat_cmp nat_cmp_total nat_cmp-IsAntisymmetric a.memory.pages b.memory.pages (subst T (sym ha.state.pages.rising) tt) (subst T (sym hb.state.pages.rising) tt) (λ number.
       pages_tell k (page_name k m number) (page_at a.memory number) (page_at b.memory number)
       (subst (λ (v : Names). IsOrNone (IsPageName k) (page_at a.memory number) (page_name k v number)) e (na.memory.pages number)) (nb.memory.pages number))
 

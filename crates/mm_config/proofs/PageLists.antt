@@ -1,0 +1,162 @@
+-- Ascending lists of pages: one after the other, with one more, and with one less.
+use Rattle.std.proofs.Common.{◌≡◌, ◌≢◌, ◌⊎◌, inl, inr, ℕ, zero, suc, ◌+◌, ◌<◌, ◌≤◌, Bool, true, false, not, cond, ◌&&◌, nat_eq, List, [], ◌∷◌, ◌++◌, map, take, drop, length, insert, remove, slice_get, Option, Some, None, is_some}
+use Rattle.std.proofs.Common.{refl, sym, ap, ◌∙◌, subst, arith, T, eq-eqb, eqb-true}
+use Rattle.std.proofs.lemmas.Bool.{ne_eqb, Decides.nat_tests}
+use Rattle.std.specs.{Prelude.◌==◌, List.{filter, common_prefix_len}, Cmp.unsigned_tied}
+use Rattle.std.specs.{Ordering.{nat_cmp, is_lt}, declared.cmp.Ordering.{Ordering, TheVariants.{Less, Equal, Greater}}}
+use Rattle.std.specs.FinMap.{find, put, is_sorted, Entries.{by_order, below_all}}
+use Rattle.mm_word.specs.declared.word.Cell.{Cell}
+
+abbrev Pages : Type 0
+Pages = List (ℕ × List Cell)
+
+abbrev pub numbers : Pages → List ℕ
+numbers pages = map (λ (e : ℕ × List Cell). e.0) pages
+
+-- 1. Orders.
+
+less_means : (k n : ℕ) → nat_cmp k n ≡ Less → k < n
+less_means k n h = grind (arith, nat_tests)
+
+equal_means : (k n : ℕ) → nat_cmp k n ≡ Equal → k ≡ n
+equal_means k n h = grind (arith, nat_tests)
+
+lt_means : (k n : ℕ) → T (is_lt (nat_cmp k n)) → k < n
+lt_means k n h = by (nat_cmp k n) refl h
+  where
+    by : (o : Ordering) → nat_cmp k n ≡ o → T (is_lt o) → k < n
+    by Less e h = less_means k n e
+    by Equal e h = absurd h
+    by Greater e h = absurd h
+
+both_parts : (a b : Bool) → T (a && b) → T a × T b
+both_parts true b h = (tt, h)
+both_parts false b h = absurd h
+
+find_first : (q : ℕ) (e : ℕ × List Cell) (es : Pages) → find nat_cmp q (e ∷ es) ≡ cond (nat_eq q e.0) (Some e.1) (find nat_cmp q es)
+find_first q e es = ap (λ b. cond b (Some e.1) (find nat_cmp q es)) (unsigned_tied q e.0)
+
+find_here : (q : ℕ) (e : ℕ × List Cell) (es : Pages) → q ≡ e.0 → find nat_cmp q (e ∷ es) ≡ Some e.1
+find_here q e es same = find_first q e es ∙ ap (λ b. cond b (Some e.1) (find nat_cmp q es)) (eq-eqb q e.0 same)
+
+find_later : (q : ℕ) (e : ℕ × List Cell) (es : Pages) → q ≢ e.0 → find nat_cmp q (e ∷ es) ≡ find nat_cmp q es
+find_later q e es ne = find_first q e es ∙ ap (λ b. cond b (Some e.1) (find nat_cmp q es)) (ne_eqb q e.0 ne)
+
+-- 2. One page after the other.
+
+above : (k : ℕ) (es : Pages) → T (below_all nat_cmp k es) → (at : ℕ) (e : ℕ × List Cell) → slice_get es at ≡ Some e → k < e.0
+above k [] h at e got = cc
+above k (x ∷ es) h zero e got = let same : x ≡ e = cc in subst (λ (y : ℕ × List Cell). k < y.0) same (lt_means k x.0 (both_parts _ _ h).0)
+above k (x ∷ es) h (suc at) e got = above k es (both_parts _ _ h).1 at e got
+
+-- the pages up to one more: its number finds it, and each other what it found before
+pub page_added : (es : Pages) → T (is_sorted nat_cmp es) → (at : ℕ) (e : ℕ × List Cell) → slice_get es at ≡ Some e
+    → (find nat_cmp e.0 (take (suc at) es) ≡ Some e.1) × ((q : ℕ) → q ≢ e.0 → find nat_cmp q (take (suc at) es) ≡ find nat_cmp q (take at es))
+page_added [] up at e got = cc
+page_added (x ∷ es) up zero e got =
+    let same : x ≡ e = cc in
+    (ap (λ (y : ℕ × List Cell). find nat_cmp e.0 (y ∷ [])) same ∙ find_here e.0 e [] refl,
+      λ q ne. ap (λ (y : ℕ × List Cell). find nat_cmp q (y ∷ [])) same ∙ find_later q e [] ne)
+page_added (x ∷ es) up (suc at) e got =
+    let parts = both_parts _ _ up in
+    let low = above x.0 es parts.0 at e got in
+    let rest = page_added es parts.1 at e got in
+    (find_later e.0 x (take (suc at) es) (λ same. omega (arith, low, same)) ∙ rest.0,
+      λ q ne. find_first q x (take (suc at) es) ∙ ap (cond (nat_eq q x.0) (Some x.1)) (rest.1 q ne) ∙ sym (find_first q x (take at es)))
+
+-- 3. One page more, or less: the first difference of the numbers tells which.
+
+abbrev pub first_other : List ℕ → List ℕ → ℕ
+first_other was now = common_prefix_len nat_eq was now
+
+-- a number comes in between others
+pub record ComesIn (was now : List ℕ) (number : ℕ) : Type 0 where
+  pub at : slice_get now (first_other was now) ≡ Some number
+  pub list : insert was (first_other was now) number ≡ now
+  pub long : length now ≡ suc (length was)
+
+one_more : (n : ℕ) → 1 + n ≡ suc n
+one_more n = omega arith
+
+comes_later : (x number : ℕ) (was now : List ℕ) → ComesIn was now number → ComesIn (x ∷ was) (x ∷ now) number
+comes_later x number was now h =
+    let here : first_other (x ∷ was) (x ∷ now) ≡ suc (first_other was now) = ap (λ b. cond b (1 + first_other was now) 0) (eq-eqb x x refl) ∙ one_more (first_other was now) in
+    let long = h.long in
+    record {
+      at = ap (slice_get (x ∷ now)) here ∙ h.at;
+      list = ap (λ i. insert (x ∷ was) i number) here ∙ ap (λ l. x ∷ l) h.list;
+      long = omega (arith, long);
+    }
+
+none_some : (cells : List Cell) → Some cells ≡ None → ⊥
+none_some cells e = cc
+
+pub comes_in : (es : Pages) (p : ℕ) (v : List Cell) → find nat_cmp p es ≡ None → ComesIn (numbers es) (numbers (put nat_cmp p v es)) p
+comes_in [] p v none = record { at = refl; list = refl; long = refl }
+comes_in (e ∷ es) p v none = by (nat_cmp p e.0) refl (λ ne. comes_in es p v (sym (find_later p e es ne) ∙ none))
+  where
+    by : (o : Ordering) → nat_cmp p e.0 ≡ o → (p ≢ e.0 → ComesIn (numbers es) (numbers (put nat_cmp p v es)) p)
+        → ComesIn (numbers (e ∷ es)) (numbers (by_order o ((p, v) ∷ e ∷ es) ((e.0, v) ∷ es) (e ∷ put nat_cmp p v es))) p
+    by Less is rest =
+        let lt = less_means p e.0 is in
+        let zero_is : first_other (numbers (e ∷ es)) (p ∷ numbers (e ∷ es)) ≡ 0 = ap (λ b. cond b (1 + first_other (numbers es) (numbers (e ∷ es))) 0) (ne_eqb e.0 p (λ same. omega (arith, lt, same))) in
+        record {
+          at = ap (slice_get (p ∷ numbers (e ∷ es))) zero_is;
+          list = ap (λ i. insert (numbers (e ∷ es)) i p) zero_is;
+          long = refl;
+        }
+    by Equal is rest = absurd (none_some e.1 (sym (find_here p e es (equal_means p e.0 is)) ∙ none))
+    by Greater is rest = comes_later e.0 p (numbers es) (numbers (put nat_cmp p v es)) (rest (λ same. let other = is in let equal : nat_cmp p e.0 ≡ Equal = grind (arith, nat_tests) in cc))
+
+-- a number goes out
+pub record GoesOut (was now : List ℕ) (number : ℕ) : Type 0 where
+  pub at : slice_get was (first_other was now) ≡ Some number
+  pub list : remove was (first_other was now) ≡ now
+  pub long : length was ≡ suc (length now)
+
+goes_later : (x number : ℕ) (was now : List ℕ) → GoesOut was now number → GoesOut (x ∷ was) (x ∷ now) number
+goes_later x number was now h =
+    let here : first_other (x ∷ was) (x ∷ now) ≡ suc (first_other was now) = ap (λ b. cond b (1 + first_other was now) 0) (eq-eqb x x refl) ∙ one_more (first_other was now) in
+    let long = h.long in
+    record {
+      at = ap (slice_get (x ∷ was)) here ∙ h.at;
+      list = ap (λ i. remove (x ∷ was) i) here ∙ ap (λ l. x ∷ l) h.list;
+      long = omega (arith, long);
+    }
+
+-- no page below all others is among them
+none_there : (p : ℕ) (es : Pages) → T (below_all nat_cmp p es) → filter (λ (e : ℕ × List Cell). not (e.0 == p)) es ≡ es
+none_there p [] h = refl
+none_there p (e ∷ es) h =
+    let parts = both_parts _ _ h in
+    let lt = lt_means p e.0 parts.0 in
+    let other : (e.0 == p) ≡ false = ne_eqb e.0 p (λ same. omega (arith, lt, same)) in
+    ap (λ b. cond (not b) (e ∷ filter (λ (x : ℕ × List Cell). not (x.0 == p)) es) (filter (λ (x : ℕ × List Cell). not (x.0 == p)) es)) other
+    ∙ ap (λ l. e ∷ l) (none_there p es parts.1)
+
+first_zero : (p : ℕ) (es : Pages) → T (below_all nat_cmp p es) → first_other (p ∷ numbers es) (numbers es) ≡ 0
+first_zero p [] h = refl
+first_zero p (e ∷ es) h =
+    let lt = lt_means p e.0 (both_parts _ _ h).0 in
+    ap (λ b. cond b (1 + first_other (numbers (e ∷ es)) (numbers es)) 0) (ne_eqb p e.0 (λ same. omega (arith, lt, same)))
+
+pub goes_out : (es : Pages) (p : ℕ) → T (is_sorted nat_cmp es) → is_some (find nat_cmp p es) ≡ true
+    → GoesOut (numbers es) (numbers (filter (λ (e : ℕ × List Cell). not (e.0 == p)) es)) p
+goes_out [] p up some = cc
+goes_out (e ∷ es) p up some = by (e.0 == p) refl (λ ne. goes_out es p (both_parts _ _ up).1 (ap is_some (sym (find_later p e es (λ same. ne (sym same)))) ∙ some))
+  where
+    gone : Pages
+    gone = filter (λ (x : ℕ × List Cell). not (x.0 == p)) es
+
+    by : (b : Bool) → (e.0 == p) ≡ b → (e.0 ≢ p → GoesOut (numbers es) (numbers gone) p) → GoesOut (numbers (e ∷ es)) (numbers (cond (not b) (e ∷ gone) gone)) p
+    by true is rest =
+        let same : e.0 ≡ p = eqb-true e.0 p is in
+        let low : T (below_all nat_cmp p es) = subst (λ n. T (below_all nat_cmp n es)) same (both_parts _ _ up).0 in
+        let all = none_there p es low in
+        let zero_is : first_other (numbers (e ∷ es)) (numbers gone) ≡ 0 = (λ j. first_other (same j ∷ numbers es) (numbers (all j))) ∙ first_zero p es low in
+        record {
+          at = ap (slice_get (numbers (e ∷ es))) zero_is ∙ ap Some same;
+          list = ap (λ i. remove (numbers (e ∷ es)) i) zero_is ∙ ap numbers (sym all);
+          long = ap (λ (l : Pages). suc (length (numbers l))) (sym all);
+        }
+    by false is rest = goes_later e.0 p (numbers es) (numbers gone) (rest (λ same. let own = eq-eqb e.0 p same in cc))
