@@ -4,6 +4,9 @@ pub mod Spells
 pub mod Taking
 pub mod Masks
 pub mod EventForms
+pub mod States
+pub mod Revising
+pub mod Turned
 pub mod CellForms
 pub mod ListForms
 pub mod Placing

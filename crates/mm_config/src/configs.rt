@@ -52,8 +52,6 @@ pub struct Configs {
     pub(crate) rest: u32,
     /// The names of each configuration that was kept: of the slots, and of the rest.
     pub(crate) kept: IndexSet<(u32, u32)>,
-    /// The most configurations that are kept.
-    pub(crate) limit: usize,
     // Room for what a call needs.
     pub(crate) slots: Vec<Slot>,
     pub(crate) revision: Revision,
@@ -72,12 +70,10 @@ fn depth_for(count: usize) -> u32 {
 }
 
 impl Configs {
-    /// The machine of an image at its start, whose configuration is kept first. There is room for `limit` of them.
-    pub fn new(alloc: Global, img: &Image, limit: usize) -> Result<Configs, NoMemory>
-        requires some { 1 ≤ limit }
-        requires few { limit ≤ 2 ^ 31 }
+    /// The machine of an image at its start, whose configuration is kept first.
+    pub fn new(alloc: Global, img: &Image) -> Result<Configs, NoMemory>
         ensures { IfOk result (λ c. Stands img.now
-            (record { kept = configuration (start img.now) ∷ []; machine = configuration (start img.now); limit = limit }) c) }
+            (record { kept = configuration (start img.now) ∷ []; machine = configuration (start img.now) }) c) }
     {
         let mut core = Core::new(alloc, img.slots())?;
         core.set_version(img.version());
@@ -94,7 +90,6 @@ impl Configs {
             now: Names::NONE,
             rest: 0,
             kept: IndexSet::new(alloc),
-            limit,
             slots: Slot::copies(alloc, img.slots())?,
             revision: Revision::new(alloc),
             changed: Vec::new(alloc),
@@ -102,7 +97,7 @@ impl Configs {
             numbers: Vec::new(alloc),
         };
         configs.note_all(img.pages())?;
-        configs.keep()?;
+        configs.keep(1)?;
         Ok(configs)
     }
 
@@ -145,14 +140,15 @@ impl Configs {
         Ok(step)
     }
 
-    /// Looks the machine's configuration up, and keeps it if it is new and there is room.
-    pub fn keep(&mut self) -> Result<Looked, AllocError>
-        requires { (i : ImageValue) × (v : ConfigsValue) × Stands i v self.old }
+    /// Looks the machine's configuration up, and keeps it if it is new and fewer than `limit` are kept.
+    pub fn keep(&mut self, limit: usize) -> Result<Looked, AllocError>
+        requires stands { (i : ImageValue) × (v : ConfigsValue) × Stands i v self.old }
+        requires few { limit ≤ 2 ^ 31 }
         ensures { IfOk result (λ looked. (i : ImageValue) (v : ConfigsValue) → Stands i v self.old
-            → (now : ConfigsValue) × Stands i now self.new × Keeps looked v now) }
+            → (now : ConfigsValue) × Stands i now self.new × Keeps limit looked v now) }
     {
         let key = (self.now.slots, self.rest);
-        if self.kept.len() == self.limit {
+        if self.kept.len() >= limit {
             return match self.kept.get_index_of(&key) {
                 Some(at) => Ok(Looked::Known(at as u32)),
                 None => Ok(Looked::Full),

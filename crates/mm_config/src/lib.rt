@@ -10,20 +10,26 @@
 //! | a slot | numbers: its difference from the image's | `slot_form` |
 //! | a queue | numbers | `events` |
 //! | an output | a pair of a shorter output and of one more than its last byte | `note` |
-//! | a cell | its bits, and whether it is full and a pointer | `store` |
-//! | a page | a pair of 1 and of the tree of its 512 cells | `memory` |
+//! | a cell | its bits, and whether it is full and a pointer | `cells` |
+//! | a page | a pair of 1 and of the tree of its 512 cells | `pages` |
 //! | the slots, the queues, the outputs, the pages | full binary trees | `mm_pairs` |
 #![tactic(auto)]
 
+mod cells;
 mod configs;
 mod events;
+mod laws;
+mod lists;
 mod memory;
 mod names;
 mod note;
+mod pages;
+mod places;
 mod put;
 mod reader;
 mod slot_form;
 mod store;
 
 pub use configs::{Configs, Looked};
+pub use laws::names_are_of_one;
 pub use slot_form::state_number;

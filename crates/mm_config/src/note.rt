@@ -3,7 +3,8 @@
 
 use crate::configs::Configs;
 use crate::events::put_events;
-use crate::memory::{note_cell, note_page, note_pages};
+use crate::memory::{note_cell, note_page};
+use crate::pages::note_pages;
 use crate::slot_form::put_slot;
 use mm_mem::Inspect;
 use mm_model::{Page, Step, Tick};
@@ -39,7 +40,7 @@ impl Configs {
         for at in 0..self.base.len() {
             self.note_slot(at)?;
         }
-        note_pages(self.alloc, &mut self.store, &mut self.now, pages)?;
+        note_pages(&mut self.store, &mut self.now, pages)?;
         self.list_mapped()?;
         self.rest = self.now.rest(&mut self.store.pairs)?;
         Ok(())
@@ -80,7 +81,7 @@ impl Configs {
     fn note_slot(&mut self, at: usize) -> Result<(), AllocError> {
         self.numbers.clear();
         put_slot(&mut self.numbers, &self.base[at], self.core.nth(at))?;
-        let name = self.store.name_numbers(self.alloc, &self.numbers)?;
+        let name = self.store.lists.name(self.alloc, &self.numbers)?;
         self.now.slots =
             self.store
                 .pairs
@@ -124,7 +125,7 @@ impl Configs {
     fn note_queue(&mut self, at: usize) -> Result<(), AllocError> {
         self.numbers.clear();
         put_events(&mut self.numbers, self.core.queue(self.base[at].number))?;
-        let name = self.store.name_numbers(self.alloc, &self.numbers)?;
+        let name = self.store.lists.name(self.alloc, &self.numbers)?;
         self.now.queues =
             self.store
                 .pairs

@@ -2,13 +2,14 @@
 
 use crate::configs::Configs;
 use crate::events::take_events;
-use crate::memory::{DEPTH, same_height};
 use crate::names::Names;
 use crate::note::GROUPS;
+use crate::pages::DEPTH;
 use crate::reader::Reader;
 use crate::slot_form::take_slot;
 use crate::store::Store;
 use mm_mem::{Inspect, Memory};
+use mm_pairs::Pairs;
 use std::alloc::{AllocError, Global};
 
 impl Configs {
@@ -52,7 +53,7 @@ impl Configs {
         let mut changed = 0;
         for (at, name) in self.changed.as_slice() {
             let at = *at as usize;
-            let mut reader = Reader::new(self.store.numbers(*name));
+            let mut reader = Reader::new(self.store.lists.get(*name));
             take_slot(&mut reader, &self.base[at], &mut self.slots[at]);
             changed |= 1 << at;
         }
@@ -74,7 +75,7 @@ impl Configs {
         )?;
         for (at, name) in self.changed.as_slice() {
             let mut events = Vec::new(self.alloc);
-            take_events(&mut Reader::new(self.store.numbers(*name)), &mut events)?;
+            take_events(&mut Reader::new(self.store.lists.get(*name)), &mut events)?;
             self.revision.queues.push((*at as usize, events))?;
         }
         Ok(())
@@ -107,7 +108,9 @@ impl Configs {
         if wanted.pages == self.now.pages && wanted.height == self.now.height {
             return Ok(());
         }
-        let (was, pages, height) = same_height(&mut self.store, &self.now, wanted)?;
+        let height = wanted.height.max(self.now.height);
+        let was = raised(&mut self.store.pairs, &self.now, height)?;
+        let pages = raised(&mut self.store.pairs, wanted, height)?;
         self.changed.clear();
         self.store
             .pairs
@@ -129,7 +132,7 @@ impl Configs {
         let mut some = false;
         for (place, page) in self.changed.as_slice() {
             if *page == 0 {
-                self.mem.unmap(self.store.page_at(*place));
+                self.mem.unmap(self.store.pages.number(*place));
                 some = true;
             }
         }
@@ -142,7 +145,7 @@ impl Configs {
         let mut some = false;
         for (place, _) in self.changed.as_slice() {
             if self.store.pairs.leaf(was, height, *place) == 0 {
-                self.mem.map(self.store.page_at(*place));
+                self.mem.map(self.store.pages.number(*place));
                 some = true;
             }
         }
@@ -154,7 +157,7 @@ impl Configs {
         if page == 0 {
             return Ok(());
         }
-        let number = self.store.page_at(place);
+        let number = self.store.pages.number(place);
         let (_, was) = self.store.pairs.parts(before);
         let (_, cells) = self.store.pairs.parts(page);
         self.changed_cells.clear();
@@ -162,7 +165,7 @@ impl Configs {
             .pairs
             .list_changed(was, cells, DEPTH, 0, &mut self.changed_cells)?;
         for (at, name) in self.changed_cells.as_slice() {
-            self.mem.put(number * 4096 + 8 * *at, self.store.cell(*name));
+            self.mem.put(number * 4096 + 8 * *at, self.store.cells.get(*name));
         }
         Ok(())
     }
@@ -175,6 +178,15 @@ impl Configs {
         }
         Ok(())
     }
+}
+
+/// The tree of pages, made as deep as this.
+fn raised(pairs: &mut Pairs, names: &Names, depth: u32) -> Result<u32, AllocError> {
+    let mut tree = names.pages;
+    for _ in names.height..depth {
+        tree = pairs.join(tree, 0)?;
+    }
+    Ok(tree)
 }
 
 /// How many bytes of an output stay when another takes its place, and the bytes of the other after these. The name of an

@@ -1,7 +1,10 @@
 //! The configurations that were found, in the order in which they were found.
 
+ghost use Rattle.std.specs.Prelude.{◌≡◌, ◌<◌, ◌^◌, ◌∷◌, ◌++◌, [], IfOk, OnOk, length};
+ghost use Rattle.mm_explore.specs.FoundLists.{led_by, schedule_with};
 
 use std::alloc::{AllocError, Global};
+use std::marker::Model;
 
 /// How a configuration was found: by an item after the schedule of another.
 #[derive(Clone, Copy, PartialEq, Eq)]
@@ -18,21 +21,39 @@ pub(crate) struct Found {
     origins: Vec<Origin>,
 }
 
+impl Model for Found {
+    ghost use Rattle.std.specs.Prelude.{ℕ, List, ◌∷◌, []};
+    ghost use Rattle.mm_explore.specs.FoundLists.{spelled, AreEarlier};
+
+    ghost Value = { List (List ℕ) };
+
+    ghost view = { λ f. spelled ([] ∷ []) f.origins.items };
+
+    ghost invariant = { λ f. AreEarlier 1 f.origins.items };
+}
+
 impl Found {
     /// The configuration of the empty schedule.
-    pub(crate) fn new(alloc: Global) -> Found {
+    pub(crate) fn new(alloc: Global) -> Found
+        ensures { result ≡ [] ∷ [] }
+    {
         Found {
             origins: Vec::new(alloc),
         }
     }
 
     /// The count of the configurations.
-    pub(crate) fn len(&self) -> usize {
+    pub(crate) fn len(&self) -> usize
+        ensures { result ≡ length self.now }
+    {
         self.origins.len() + 1
     }
 
     /// Adds a configuration.
-    pub(crate) fn push(&mut self, origin: Origin) -> Result<(), AllocError> {
+    pub(crate) fn push(&mut self, origin: Origin) -> Result<(), AllocError>
+        requires { origin.from < length self.old }
+        ensures { OnOk result (self.new ≡ self.old ++ led_by self.old origin ∷ []) }
+    {
         self.origins.push(origin)?;
         Ok(())
     }
@@ -44,6 +65,8 @@ impl Found {
         at: usize,
         item: Option<u8>,
     ) -> Result<Vec<u8>, AllocError>
+        requires { at < length self.now }
+        ensures { IfOk result (λ items. items.items ≡ schedule_with self.now at item) }
     {
         let mut items = Vec::new(alloc);
         if let Some(item) = item {

@@ -13,3 +13,4 @@ pub mod Fresh
 pub mod RowIndex
 pub mod RunningSlots
 pub mod Assigned
+pub mod Revised

@@ -25,7 +25,9 @@ ghost use Rattle.mm_thread.specs.StepAccesses.{accesses_in, accesses_shown};
 use crate::build::{no_outputs, rows_of};
 use crate::item::take_item;
 use crate::output::Output;
-use crate::restore::{Revision, put_events, put_outputs, put_slots};
+use crate::restore::{
+    Revision, extend_outputs, put_changed, put_events, put_outputs, put_queues, put_slots,
+};
 use crate::tables::Tables;
 use mm_mem::Memory;
 use mm_model::{Event, Slot, Step, Tick};
@@ -140,17 +142,9 @@ impl Core {
         ensures { self.new ≡ revised self.old (flags (length slots.now) changed) slots.now (queues_in revision.now)
             (outputs_in revision.now) }
     {
-        for at in 0..slots.len() {
-            if changed >> at & 1 == 1 {
-                self.tables.put_slot(at, &slots[at]);
-            }
-        }
-        for (at, events) in revision.queues.as_slice() {
-            self.tables.put_queue(*at, events);
-        }
-        for (group, kept, bytes) in revision.outputs.as_slice() {
-            self.tables.extend_output(*group, *kept, bytes);
-        }
+        put_changed(&mut self.tables, changed, slots);
+        put_queues(&mut self.tables, &revision.queues);
+        extend_outputs(&mut self.tables, &revision.outputs);
     }
 
     /// Makes the count of turns of the slot at an index 0.
@@ -227,6 +221,13 @@ impl Core {
         } else {
             &[]
         }
+    }
+
+    /// Says, for proofs, what a core always is. The call does nothing.
+    pub fn known(&self)
+        ensures { IsCore self.now }
+    {
+        let _count = self.tables.len();
     }
 
     /// The count of slots.

@@ -1,6 +1,6 @@
 //! The tables of a core, and the changes to them.
 
-ghost use Rattle.std.specs.Prelude.{◌≡◌, ◌↔◌, ℕ, IsSomeAnd, IfSome, IfNone, ◌<◌, ◌≤◌, ◌^◌, ◌++◌, ◌&&◌, [], ◌∷◌, nat_lt};
+ghost use Rattle.std.specs.Prelude.{◌≡◌, ◌↔◌, ℕ, IsSomeAnd, IfSome, IfNone, ◌+◌, ◌<◌, ◌≤◌, ◌^◌, ◌++◌, ◌&&◌, [], ◌∷◌, nat_lt};
 ghost use Rattle.std.specs.Prelude.{None, Some, Bool, true, false, length, drop, take, slice_set};
 ghost use Rattle.std.specs.List.{AllByRecursion};
 ghost use Rattle.std.specs.Int.{IsBitSet};
@@ -397,18 +397,15 @@ impl Tables {
         ensures { self.new ≡ with_queue_in self.old at events.now }
     {
         let row = &mut self.rows[at];
-        row.queue.clear();
-        for event in events {
-            row.queue.push(*event);
-        }
+        row.queue.assign(events);
     }
 
     /// Appends bytes to the first ones of a group's output.
+    #[tactic(auto, unfolding(mm_model::specs::State::output_of, mm_model::specs::State::put_output))]
     pub(crate) fn extend_output(&mut self, group: u8, kept: usize, bytes: &[u8])
         requires group { group < length self.old.outputs }
         requires room { kept + length bytes.now ≤ 65536 }
-        ensures { self.new ≡ record self.old { outputs
-            = slice_set self.old.outputs group (take kept (output_of self.old group) ++ bytes.now) } }
+        ensures { self.new ≡ put_output self.old group (take kept (output_of self.old group) ++ bytes.now) }
     {
         let output = &mut self.outputs[group as usize];
         output.extend(kept, bytes);
@@ -420,6 +417,7 @@ impl Tables {
         ensures { self.new ≡ with_slot self.old at (record (slot_in self.old at) { turns = 0 }) }
     {
         let row = &mut self.rows[at];
-        row.slot.turns = 0;
+        let slot = &mut row.slot;
+        slot.turns = 0;
     }
 }
