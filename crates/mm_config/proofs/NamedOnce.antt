@@ -38,7 +38,7 @@ some_at_length [] at x e = cc
 some_at_length (y ∷ xs) zero x e = omega arith
 some_at_length (y ∷ xs) (suc at) x e = let later = some_at_length xs at x e in omega (arith, later)
 
-same_numbers : (xs ys : List ℕ) → length xs ≡ length ys → ((at : ℕ) → slice_index_or xs at 0 ≡ slice_index_or ys at 0) → xs ≡ ys
+pub same_numbers : (xs ys : List ℕ) → length xs ≡ length ys → ((at : ℕ) → slice_index_or xs at 0 ≡ slice_index_or ys at 0) → xs ≡ ys
 same_numbers [] [] e h = refl
 same_numbers [] (y ∷ ys) e h = absurd (omega (arith, e))
 same_numbers (x ∷ xs) [] e h = absurd (omega (arith, e))

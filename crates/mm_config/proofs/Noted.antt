@@ -1,18 +1,18 @@
 -- The names of a memory with another cell, and with another page.
-use Rattle.std.proofs.Common.{◌≡◌, ◌≢◌, inl, inr, ℕ, zero, suc, ◌+◌, ◌*◌, ◌/◌, ◌%◌, ◌^◌, ◌<◌, ◌≤◌, Bool, true, false, nat_eq, if◌then◌else◌, List, [], ◌∷◌, length, slice_get, slice_set, Option, Some, None}
+use Rattle.std.proofs.Common.{◌≡◌, ◌≢◌, ◌⊎◌, inl, inr, ℕ, zero, suc, ◌+◌, ◌*◌, ◌/◌, ◌%◌, ◌^◌, ◌<◌, ◌≤◌, Bool, true, false, nat_eq, if◌then◌else◌, List, [], ◌∷◌, length, slice_get, slice_index_or, slice_set, Option, Some, None}
 use Rattle.std.proofs.Common.{refl, sym, ap, ◌∙◌, subst, arith, eqb-true, eq-eqb, is_some, take, T}
-use Rattle.std.specs.{Ordering.nat_cmp, FinMap.is_sorted}
+use Rattle.std.specs.{Ordering.nat_cmp, FinMap.is_sorted, List.AllZip, Prelude.{IsTrue, replicate}}
 use Rattle.std.proofs.Math.Seq.{take-length}
 use Rattle.mm_word.specs.declared.word.Cell.{Cell}
 use Rattle.mm_model.specs.Memory.{Memory, page_of, place_of, page_at, cell_in, cell_at, put_cell, is_mapped, map_page, unmap_page, zero_cell, zero_page}
 use Rattle.mm_model.proofs.Memories.{cell_at-aligned, put_cell-unmapped, page_at-put_same, page_at-put_other, page_at-map_same, page_at-map_other, page_at-unmap_same, page_at-unmap_other}
-use Rattle.mm_pairs.specs.{Named.{HasGrown, IsNameOf}, Trees.{leaves, IsTree, HasLeaves}}
-use Rattle.mm_pairs.proofs.Names.{named_stays, tree_stays, grown_twice}
+use Rattle.mm_pairs.specs.{Named.{HasGrown, IsNameOf}, Trees.{pair_of, leaves, IsTree, HasLeaves}}
+use Rattle.mm_pairs.proofs.Names.{named_stays, tree_stays, grown_twice, length_leaves}
 use Rattle.mm_config.specs.declared.{store.Store.Store, names.Names.Names}
-use Rattle.mm_config.specs.{Naming.{AreCells, IsPageName, IsOrNone, leaf_at, page_name, IsLow, IsTreeOfPages, AreMemoryNames}, Noting.{HasMoreCells, IsKeptStill, HasOtherPages, PutsPage}}
-use Rattle.mm_config.proofs.{PageCells.{page_stays, cells_set, cells_stay, more_twice, more_pairs}, PageLists.page_added, PageTrees.leaf_stays}
+use Rattle.mm_config.specs.{Naming.{AreCells, IsPageName, IsOrNone, leaf_at, page_name, IsLow, IsTreeOfPages, AreMemoryNames}, Noting.{HasMoreCells, HasOtherPage, IsKeptStill, PutsPage, mapped_pages}}
+use Rattle.mm_config.proofs.{PageCells.{page_stays, cells_set, cells_stay, more_twice, more_pairs}, PageLists.{page_added, comes_in, goes_out, ComesIn, GoesOut}, NamedOnce.same_numbers, PageTrees.{leaf_stays, none_tree, none_at}}
 use Rattle.mm_config.specs.Places.{page_place}
-use Rattle.std.proofs.lemmas.Bool.{cases_eq}
+use Rattle.std.proofs.lemmas.{Bool.cases_eq, List.{length-map, length-replicate}}
 
 -- 1. What stays.
 
@@ -163,3 +163,91 @@ page_noted k k1 k4 pairs n0 n4 pages at page tree name up got h more cells grown
     let all = put_noted k k2 k4 (more_twice k k1 k2 more (more_pairs k1 pairs grown)) was now n0 n4 page.0 name h put added.1
     (subst (λ (o : Option (List Cell)). IsOrNone (IsPageName k4) o name) (sym added.0) (page_stays k2 k4 put.still page.1 name named)) in
     subst (λ i. AreMemoryNames k4 (record { pages = take i pages; frames = 0 }) n4) next all
+
+-- what is known of the page of a word that was written, whose name's pair is read
+pub record WrittenPage (k : Store) (now : Memory) (word page tree : ℕ) (cell : Cell) : Type 0 where
+  pub cells : List Cell
+  pub was : IsPageName k cells page
+  pub same : tree ≡ was.tree
+  pub now_is : page_at now (page_of word) ≡ Some (slice_set cells (place_of word) cell)
+
+pub written_page : (k : Store) (m now : Memory) (n : Names) (word page : ℕ) (parts : ℕ × ℕ) (c cell : Cell) → now ≡ put_cell m word c → word % 8 ≡ 0 → AreMemoryNames k m n
+    → Some cell ≡ cell_at now word → page ≡ page_name k n (page_of word) → parts ≡ pair_of k.pairs page → WrittenPage k now word page parts.1 cell
+written_page k m now n word page parts c cell is aligned h some name pair =
+    let w = written m now word c is aligned cell some in
+    let known = subst (λ l. IsOrNone (IsPageName k) (page_at m (page_of word)) l) (sym name) (h.pages (page_of word)) in
+    let was : IsPageName k w.0 page = subst (λ (o : Option (List Cell)). IsOrNone (IsPageName k) o page) w.1 known in
+    record { cells = w.0; was = was; same = ap (λ (p : ℕ × ℕ). p.1) (pair ∙ was.is.is); now_is = w.2 }
+
+-- a page of zeros
+zero_leaves : (n : ℕ) (kept : List Cell) → AllZip (λ cell leaf. IsNameOf zero_cell kept leaf cell) (replicate n zero_cell) (replicate n 0)
+zero_leaves zero kept = tt
+zero_leaves (suc n) kept = (record { within = omega arith; is = refl }, zero_leaves n kept)
+
+zero_at : (n at : ℕ) → slice_index_or (replicate n 0) at 0 ≡ 0
+zero_at zero at = refl
+zero_at (suc n) zero = refl
+zero_at (suc n) (suc at) = zero_at n at
+
+pub zero_cells : (k : Store) → AreCells k 9 0 zero_page
+zero_cells k =
+    let all : leaves k.pairs 9 0 ≡ replicate 512 0 =
+    same_numbers (leaves k.pairs 9 0) (replicate 512 0) (length_leaves k.pairs 9 0 ∙ sym (length-replicate 512 0)) (λ at. none_at k.pairs 9 at ∙ sym (zero_at 512 at)) in
+    record { inner = none_tree k.pairs 9; names = subst (AllZip (λ cell leaf. IsNameOf zero_cell k.cells leaf cell) zero_page) (sym all) (zero_leaves 512 k.cells) }
+
+-- 4. A page that came or went.
+
+pub record HasCome (m now : Memory) (mapped : List ℕ) : Type 0 where
+  pub page : ℕ
+  pub is : now ≡ map_page m page
+  pub comes : ComesIn mapped (mapped_pages now) page
+
+pub record HasGone (m now : Memory) (mapped : List ℕ) : Type 0 where
+  pub page : ℕ
+  pub is : now ≡ unmap_page m page
+  pub goes : GoesOut mapped (mapped_pages now) page
+
+came_or_went : (m now : Memory) (mapped : List ℕ) → IsTrue (is_sorted nat_cmp m.pages) → mapped ≡ mapped_pages m → HasOtherPage m now → HasCome m now mapped ⊎ HasGone m now mapped
+came_or_went m now mapped up same h = by h.1
+  where
+    come : (now ≡ map_page m h.0) → page_at m h.0 ≡ None → ComesIn mapped (mapped_pages now) h.0
+    unfolding map_page
+    come is none = subst (λ (v : Memory). ComesIn mapped (mapped_pages v) h.0) (sym is) (subst (λ l. ComesIn l (mapped_pages (map_page m h.0)) h.0) (sym same) (comes_in m.pages h.0 zero_page none))
+
+    gone : (now ≡ unmap_page m h.0) → is_mapped m h.0 ≡ true → GoesOut mapped (mapped_pages now) h.0
+    unfolding unmap_page
+    gone is some = subst (λ (v : Memory). GoesOut mapped (mapped_pages v) h.0) (sym is)
+        (subst (λ l. GoesOut l (mapped_pages (unmap_page m h.0)) h.0) (sym same) (goes_out m.pages h.0 (subst T (sym up) tt) some))
+
+    by : ((page_at m h.0 ≡ None) × (now ≡ map_page m h.0)) ⊎ ((is_mapped m h.0 ≡ true) × (now ≡ unmap_page m h.0)) → HasCome m now mapped ⊎ HasGone m now mapped
+    by (inl p) = inl (record { page = h.0; is = p.1; comes = come p.1 p.0 })
+    by (inr p) = inr (record { page = h.0; is = p.1; goes = gone p.1 p.0 })
+
+pub has_come : (m now : Memory) (mapped : List ℕ) → IsTrue (is_sorted nat_cmp m.pages) → mapped ≡ mapped_pages m → HasOtherPage m now → length mapped < length now.pages → HasCome m now mapped
+has_come m now mapped up same h more = elim (came_or_went m now mapped up same h) [
+  | inl come ↦ come
+  | inr gone ↦ let long = gone.goes.long in let count = length-map now.pages (λ (e : ℕ × List Cell). e.0) in absurd (omega (arith, long, count, more))
+]
+
+pub has_gone : (m now : Memory) (mapped : List ℕ) → IsTrue (is_sorted nat_cmp m.pages) → mapped ≡ mapped_pages m → HasOtherPage m now → length now.pages ≤ length mapped → HasGone m now mapped
+has_gone m now mapped up same h less = elim (came_or_went m now mapped up same h) [
+  | inl come ↦ let long = come.comes.long in let count = length-map now.pages (λ (e : ℕ × List Cell). e.0) in absurd (omega (arith, long, count, less))
+  | inr gone ↦ gone
+]
+
+pub come_noted : (k k4 : Store) (pairs : List (ℕ × ℕ)) (m now : Memory) (n0 n4 : Names) (page number name : ℕ) → AreMemoryNames k m n0 → HasGrown k.pairs pairs
+    → IsNameOf (0, 0) pairs name (1, 0) → now ≡ map_page m page → number ≡ page → PutsPage (record k { pairs = pairs }) n0 number name k4 n4 → AreMemoryNames k4 now n4
+come_noted k k4 pairs m now n0 n4 page number name h grown is mapped same put =
+    let k2 : Store = record k { pairs = pairs } in
+    let here : page_at now number ≡ Some zero_page = (λ j. page_at (mapped j) (same j)) ∙ page_at-map_same m page in
+    put_noted k k2 k4 (more_pairs k pairs grown) m now n0 n4 number name h put
+    (λ q ne. ap (λ (v : Memory). page_at v q) mapped ∙ page_at-map_other m page q (λ e. ne (e ∙ sym same)))
+    (subst (λ (o : Option (List Cell)). IsOrNone (IsPageName k4) o name) (sym here) (page_stays k2 k4 put.still zero_page name (record { tree = 0; is = is; named = zero_cells k2 })))
+
+pub gone_noted : (k k4 : Store) (m now : Memory) (n0 n4 : Names) (page number : ℕ) → AreMemoryNames k m n0 → now ≡ unmap_page m page → number ≡ page
+    → PutsPage k n0 number 0 k4 n4 → AreMemoryNames k4 now n4
+gone_noted k k4 m now n0 n4 page number h unmapped same put =
+    let here : page_at now number ≡ None = (λ j. page_at (unmapped j) (same j)) ∙ page_at-unmap_same m page in
+    put_noted k k k4 (record { pairs = take-length k.pairs; cells = take-length k.cells; others = refl }) m now n0 n4 number 0 h put
+    (λ q ne. ap (λ (v : Memory). page_at v q) unmapped ∙ page_at-unmap_other m page q (λ e. ne (e ∙ sym same)))
+    (subst (λ (o : Option (List Cell)). IsOrNone (IsPageName k4) o 0) (sym here) refl)

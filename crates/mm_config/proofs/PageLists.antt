@@ -1,7 +1,7 @@
 -- Ascending lists of pages: one after the other, with one more, and with one less.
-use Rattle.std.proofs.Common.{◌≡◌, ◌≢◌, ◌⊎◌, inl, inr, ℕ, zero, suc, ◌+◌, ◌<◌, ◌≤◌, Bool, true, false, not, cond, ◌&&◌, nat_eq, List, [], ◌∷◌, ◌++◌, map, take, drop, length, insert, remove, slice_get, Option, Some, None, is_some}
+use Rattle.std.proofs.Common.{◌≡◌, ◌≢◌, ◌⊎◌, inl, inr, ℕ, zero, suc, ◌+◌, ◌<◌, ◌≤◌, Bool, true, false, not, cond, ◌&&◌, nat_eq, List, [], ◌∷◌, ◌++◌, map, take, drop, length, insert, remove, slice_get, slice_index_or, Option, Some, None, is_some}
 use Rattle.std.proofs.Common.{refl, sym, ap, ◌∙◌, subst, arith, T, eq-eqb, eqb-true}
-use Rattle.std.proofs.lemmas.Bool.{ne_eqb, Decides.nat_tests}
+use Rattle.std.proofs.lemmas.{Bool.{ne_eqb, Decides.nat_tests}, List.{drop_all, Sums.{common_prefix_len-drop_yes, common_prefix_len-drop_no}}, Option.{get_or_from_slice_get, slice_get_within}}
 use Rattle.std.specs.{Prelude.◌==◌, List.{filter, common_prefix_len}, Cmp.unsigned_tied}
 use Rattle.std.specs.{Ordering.{nat_cmp, is_lt}, declared.cmp.Ordering.{Ordering, TheVariants.{Less, Equal, Greater}}}
 use Rattle.std.specs.FinMap.{find, put, is_sorted, Entries.{by_order, below_all}}
@@ -160,3 +160,32 @@ goes_out (e ∷ es) p up some = by (e.0 == p) refl (λ ne. goes_out es p (both_p
           long = ap (λ (l : Pages). suc (length (numbers l))) (sym all);
         }
     by false is rest = goes_later e.0 p (numbers es) (numbers gone) (rest (λ same. let own = eq-eqb e.0 p same in cc))
+
+-- 4. A walk to the first difference.
+
+abbrev pub IsAlikeTo : (was now : List ℕ) → ℕ → Type 0
+IsAlikeTo was now at = first_other was now ≡ at + first_other (drop at was) (drop at now)
+
+module _ (was now : List ℕ) (at n : ℕ) (alike : IsAlikeTo was now at) (within : at < length was) (got : slice_get now at ≡ Some n) where
+  pub other_here : (n ≡ slice_index_or was at 0 → ⊥) → at ≡ first_other was now
+  other_here other =
+      let there = slice_get_within now at n got in
+      let number = get_or_from_slice_get now at n 0 got in
+      let none = common_prefix_len-drop_no nat_eq was now at 0 0 within there (ne_eqb (slice_index_or was at 0) (slice_index_or now at 0) (λ same. other (sym number ∙ sym same))) in
+      omega (arith, alike, none)
+
+  pub same_here : n ≡ slice_index_or was at 0 → IsAlikeTo was now (at + 1)
+  same_here same =
+      let there = slice_get_within now at n got in
+      let number = get_or_from_slice_get now at n 0 got in
+      let one = common_prefix_len-drop_yes nat_eq was now at 0 0 within there (eq-eqb (slice_index_or was at 0) (slice_index_or now at 0) (sym same ∙ sym number)) in
+      omega (arith, alike, one)
+
+nothing_more : (xs : List ℕ) → first_other xs [] ≡ 0
+nothing_more [] = refl
+nothing_more (x ∷ xs) = refl
+
+pub all_walked : (was now : List ℕ) (at : ℕ) → IsAlikeTo was now at → length now ≤ at → at ≡ first_other was now
+all_walked was now at alike end =
+    let none = ap (λ l. first_other (drop at was) l) (drop_all at now end) ∙ nothing_more (drop at was) in
+    omega (arith, alike, none)
