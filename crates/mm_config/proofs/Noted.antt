@@ -1,6 +1,6 @@
 -- The names of a memory with another cell, and with another page.
 use Rattle.std.proofs.Common.{◌≡◌, ◌≢◌, ◌⊎◌, inl, inr, ℕ, zero, suc, ◌+◌, ◌*◌, ◌/◌, ◌%◌, ◌^◌, ◌<◌, ◌≤◌, Bool, true, false, nat_eq, if◌then◌else◌, List, [], ◌∷◌, length, slice_get, slice_index_or, slice_set, Option, Some, None}
-use Rattle.std.proofs.Common.{refl, sym, ap, ◌∙◌, subst, arith, eqb-true, eq-eqb, is_some, take, T}
+use Rattle.std.proofs.Common.{refl, sym, ap, ◌∙◌, subst, arith, eqb-true, eq-eqb, is_some, take, insert, remove, T}
 use Rattle.std.specs.{Ordering.nat_cmp, FinMap.is_sorted, List.AllZip, Prelude.{IsTrue, replicate}}
 use Rattle.std.proofs.Math.Seq.{take-length}
 use Rattle.mm_word.specs.declared.word.Cell.{Cell}
@@ -10,9 +10,9 @@ use Rattle.mm_pairs.specs.{Named.{HasGrown, IsNameOf}, Trees.{pair_of, leaves, I
 use Rattle.mm_pairs.proofs.Names.{named_stays, tree_stays, grown_twice, length_leaves}
 use Rattle.mm_config.specs.declared.{store.Store.Store, names.Names.Names}
 use Rattle.mm_config.specs.{Naming.{AreCells, IsPageName, IsOrNone, leaf_at, page_name, IsLow, IsTreeOfPages, AreMemoryNames}, Noting.{HasMoreCells, HasOtherPage, IsKeptStill, PutsPage, mapped_pages}}
-use Rattle.mm_config.proofs.{PageCells.{page_stays, cells_set, cells_stay, more_twice, more_pairs}, PageLists.{page_added, comes_in, goes_out, ComesIn, GoesOut}, NamedOnce.same_numbers, PageTrees.{leaf_stays, none_tree, none_at}}
+use Rattle.mm_config.proofs.{PageCells.{page_stays, cells_set, cells_stay, more_twice, more_pairs}, PageLists.{page_added, comes_in, goes_out, ComesIn, GoesOut, first_other}, NamedOnce.same_numbers, PageTrees.{leaf_stays, none_tree, none_at}}
 use Rattle.mm_config.specs.Places.{page_place}
-use Rattle.std.proofs.lemmas.{Bool.cases_eq, List.{length-map, length-replicate}}
+use Rattle.std.proofs.lemmas.{Bool.cases_eq, List.{length-map, length-replicate}, Option.slice_get_within}
 
 -- 1. What stays.
 
@@ -197,43 +197,64 @@ zero_cells k =
 
 -- 4. A page that came or went.
 
-pub record HasCome (m now : Memory) (mapped : List ℕ) : Type 0 where
+pub record CameAt (m now : Memory) (mapped : List ℕ) (at : ℕ) : Type 0 where
   pub page : ℕ
   pub is : now ≡ map_page m page
-  pub comes : ComesIn mapped (mapped_pages now) page
+  pub within : at < length now.pages
+  pub got : slice_get (mapped_pages now) at ≡ Some page
+  pub list : insert mapped at page ≡ mapped_pages now
 
-pub record HasGone (m now : Memory) (mapped : List ℕ) : Type 0 where
+pub record WentAt (m now : Memory) (mapped : List ℕ) (at : ℕ) : Type 0 where
   pub page : ℕ
   pub is : now ≡ unmap_page m page
-  pub goes : GoesOut mapped (mapped_pages now) page
+  pub within : at < length mapped
+  pub got : slice_get mapped at ≡ Some page
+  pub list : remove mapped at ≡ mapped_pages now
 
-came_or_went : (m now : Memory) (mapped : List ℕ) → IsTrue (is_sorted nat_cmp m.pages) → mapped ≡ mapped_pages m → HasOtherPage m now → HasCome m now mapped ⊎ HasGone m now mapped
-came_or_went m now mapped up same h = by h.1
-  where
-    come : (now ≡ map_page m h.0) → page_at m h.0 ≡ None → ComesIn mapped (mapped_pages now) h.0
-    unfolding map_page
-    come is none = subst (λ (v : Memory). ComesIn mapped (mapped_pages v) h.0) (sym is) (subst (λ l. ComesIn l (mapped_pages (map_page m h.0)) h.0) (sym same) (comes_in m.pages h.0 zero_page none))
+came : (m : Memory) (p : ℕ) → page_at m p ≡ None → ComesIn (mapped_pages m) (mapped_pages (map_page m p)) p
+unfolding map_page
+came m p none = comes_in m.pages p zero_page none
 
-    gone : (now ≡ unmap_page m h.0) → is_mapped m h.0 ≡ true → GoesOut mapped (mapped_pages now) h.0
-    unfolding unmap_page
-    gone is some = subst (λ (v : Memory). GoesOut mapped (mapped_pages v) h.0) (sym is)
-        (subst (λ l. GoesOut l (mapped_pages (unmap_page m h.0)) h.0) (sym same) (goes_out m.pages h.0 (subst T (sym up) tt) some))
+went : (m : Memory) (p : ℕ) → T (is_sorted nat_cmp m.pages) → is_mapped m p ≡ true → GoesOut (mapped_pages m) (mapped_pages (unmap_page m p)) p
+unfolding unmap_page
+went m p up some = goes_out m.pages p up some
 
-    by : ((page_at m h.0 ≡ None) × (now ≡ map_page m h.0)) ⊎ ((is_mapped m h.0 ≡ true) × (now ≡ unmap_page m h.0)) → HasCome m now mapped ⊎ HasGone m now mapped
-    by (inl p) = inl (record { page = h.0; is = p.1; comes = come p.1 p.0 })
-    by (inr p) = inr (record { page = h.0; is = p.1; goes = gone p.1 p.0 })
+module _ (m now : Memory) (mapped list : List ℕ) (at : ℕ) (value : list ≡ mapped) (first : at ≡ first_other list (mapped_pages now))
+    (up : IsTrue (is_sorted nat_cmp m.pages)) (same : mapped ≡ mapped_pages m) where
+  first_is : first_other mapped (mapped_pages now) ≡ at
+  first_is = sym (first ∙ ap (λ l. first_other l (mapped_pages now)) value)
 
-pub has_come : (m now : Memory) (mapped : List ℕ) → IsTrue (is_sorted nat_cmp m.pages) → mapped ≡ mapped_pages m → HasOtherPage m now → length mapped < length now.pages → HasCome m now mapped
-has_come m now mapped up same h more = elim (came_or_went m now mapped up same h) [
-  | inl come ↦ come
-  | inr gone ↦ let long = gone.goes.long in let count = length-map now.pages (λ (e : ℕ × List Cell). e.0) in absurd (omega (arith, long, count, more))
-]
+  come : (p : ℕ) → page_at m p ≡ None → now ≡ map_page m p → ComesIn mapped (mapped_pages now) p
+  come p none is = subst (λ (v : Memory). ComesIn mapped (mapped_pages v) p) (sym is) (subst (λ l. ComesIn l (mapped_pages (map_page m p)) p) (sym same) (came m p none))
 
-pub has_gone : (m now : Memory) (mapped : List ℕ) → IsTrue (is_sorted nat_cmp m.pages) → mapped ≡ mapped_pages m → HasOtherPage m now → length now.pages ≤ length mapped → HasGone m now mapped
-has_gone m now mapped up same h less = elim (came_or_went m now mapped up same h) [
-  | inl come ↦ let long = come.comes.long in let count = length-map now.pages (λ (e : ℕ × List Cell). e.0) in absurd (omega (arith, long, count, less))
-  | inr gone ↦ gone
-]
+  go : (p : ℕ) → is_mapped m p ≡ true → now ≡ unmap_page m p → GoesOut mapped (mapped_pages now) p
+  go p some is = subst (λ (v : Memory). GoesOut mapped (mapped_pages v) p) (sym is)
+      (subst (λ l. GoesOut l (mapped_pages (unmap_page m p)) p) (sym same) (went m p (subst T (sym up) tt) some))
+
+  count : length (mapped_pages now) ≡ length now.pages
+  count = length-map now.pages (λ (e : ℕ × List Cell). e.0)
+
+  pub came_at : HasOtherPage m now → length mapped < length now.pages → CameAt m now mapped at
+  came_at h more = by h.1
+    where
+      by : ((page_at m h.0 ≡ None) × (now ≡ map_page m h.0)) ⊎ ((is_mapped m h.0 ≡ true) × (now ≡ unmap_page m h.0)) → CameAt m now mapped at
+      by (inl p) =
+          let c = come h.0 p.0 p.1 in
+          let got = subst (λ n. slice_get (mapped_pages now) n ≡ Some h.0) first_is c.at in
+          let within = slice_get_within (mapped_pages now) at h.0 got in
+          let many = count in
+          record { page = h.0; is = p.1; within = omega (arith, within, many); got = got; list = ap (λ n. insert mapped n h.0) (sym first_is) ∙ c.list }
+      by (inr p) = let long = (go h.0 p.0 p.1).long in let many = count in absurd (omega (arith, long, many, more))
+
+  pub went_at : HasOtherPage m now → length now.pages ≤ length mapped → WentAt m now mapped at
+  went_at h less = by h.1
+    where
+      by : ((page_at m h.0 ≡ None) × (now ≡ map_page m h.0)) ⊎ ((is_mapped m h.0 ≡ true) × (now ≡ unmap_page m h.0)) → WentAt m now mapped at
+      by (inl p) = let long = (come h.0 p.0 p.1).long in let many = count in absurd (omega (arith, long, many, less))
+      by (inr p) =
+          let c = go h.0 p.0 p.1 in
+          let got = subst (λ n. slice_get mapped n ≡ Some h.0) first_is c.at in
+          record { page = h.0; is = p.1; within = slice_get_within mapped at h.0 got; got = got; list = ap (remove mapped) (sym first_is) ∙ c.list }
 
 pub come_noted : (k k4 : Store) (pairs : List (ℕ × ℕ)) (m now : Memory) (n0 n4 : Names) (page number name : ℕ) → AreMemoryNames k m n0 → HasGrown k.pairs pairs
     → IsNameOf (0, 0) pairs name (1, 0) → now ≡ map_page m page → number ≡ page → PutsPage (record k { pairs = pairs }) n0 number name k4 n4 → AreMemoryNames k4 now n4
