@@ -17,3 +17,4 @@ pub mod NamedOnce
 pub mod OneConfig
 pub mod Noted
 pub mod PageLists
+pub mod Walks

@@ -33,7 +33,7 @@ none_at_length [] at e = omega arith
 none_at_length (x ∷ xs) zero e = cc
 none_at_length (x ∷ xs) (suc at) e = let later = none_at_length xs at e in omega (arith, later)
 
-some_at_length : {A : Type 0} (xs : List A) (at : ℕ) (x : A) → slice_get xs at ≡ Some x → at < length xs
+pub some_at_length : {A : Type 0} (xs : List A) (at : ℕ) (x : A) → slice_get xs at ≡ Some x → at < length xs
 some_at_length [] at x e = cc
 some_at_length (y ∷ xs) zero x e = omega arith
 some_at_length (y ∷ xs) (suc at) x e = let later = some_at_length xs at x e in omega (arith, later)

@@ -184,7 +184,7 @@ zero_leaves : (n : ℕ) (kept : List Cell) → AllZip (λ cell leaf. IsNameOf ze
 zero_leaves zero kept = tt
 zero_leaves (suc n) kept = (record { within = omega arith; is = refl }, zero_leaves n kept)
 
-zero_at : (n at : ℕ) → slice_index_or (replicate n 0) at 0 ≡ 0
+zero_at : (n at : ℕ) → (let none : ℕ = 0 in slice_index_or (replicate n none) at none ≡ none)
 zero_at zero at = refl
 zero_at (suc n) zero = refl
 zero_at (suc n) (suc at) = zero_at n at
