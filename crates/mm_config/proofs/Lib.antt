@@ -18,3 +18,5 @@ pub mod OneConfig
 pub mod Noted
 pub mod PageLists
 pub mod Walks
+pub mod PutPages
+pub mod PutCells

@@ -56,7 +56,7 @@ pub one_thing : {A : Type 0} (none : A) (kept : List A) (name : ℕ) (x y : A) �
 one_thing none kept name x y h k = sym h.is ∙ k.is
 
 -- no pair but that of 0 and 0 has the name 0
-not_none : (pairs : List (ℕ × ℕ)) (name : ℕ) (pair : ℕ × ℕ) → name ≡ 0 → IsNameOf (0, 0) pairs name pair → pair ≡ (0, 0)
+pub not_none : (pairs : List (ℕ × ℕ)) (name : ℕ) (pair : ℕ × ℕ) → name ≡ 0 → IsNameOf (0, 0) pairs name pair → pair ≡ (0, 0)
 not_none pairs name pair e h = sym h.is ∙ ap (named (0, 0) pairs) e
 
 -- 3. Trees.
@@ -107,7 +107,7 @@ outputs_tell k xs ys name h g = sym (reverse-reverse xs) ∙ ap reverse (chains_
 
 -- 5. Pages.
 
-cells_tell : (kept xs ys : List Cell) (names : List ℕ) → AllZip (λ cell leaf. IsNameOf zero_cell kept leaf cell) xs names → AllZip (λ cell leaf. IsNameOf zero_cell kept leaf cell) ys names → xs ≡ ys
+pub cells_tell : (kept xs ys : List Cell) (names : List ℕ) → AllZip (λ cell leaf. IsNameOf zero_cell kept leaf cell) xs names → AllZip (λ cell leaf. IsNameOf zero_cell kept leaf cell) ys names → xs ≡ ys
 cells_tell kept [] [] names h k = refl
 cells_tell kept [] (y ∷ ys) [] h k = absurd k
 cells_tell kept [] (y ∷ ys) (n ∷ names) h k = absurd h

@@ -1,11 +1,12 @@
 -- Ascending lists of pages: one after the other, with one more, and with one less.
 use Rattle.std.proofs.Common.{◌≡◌, ◌≢◌, ◌⊎◌, inl, inr, ℕ, zero, suc, ◌+◌, ◌<◌, ◌≤◌, Bool, true, false, not, cond, ◌&&◌, nat_eq, List, [], ◌∷◌, ◌++◌, map, take, drop, length, insert, remove, slice_get, slice_index_or, Option, Some, None, is_some}
 use Rattle.std.proofs.Common.{refl, sym, ap, ◌∙◌, subst, arith, T, eq-eqb, eqb-true}
-use Rattle.std.proofs.lemmas.{Bool.{ne_eqb, Decides.nat_tests}, List.{drop_all, Sums.{common_prefix_len-drop_yes, common_prefix_len-drop_no}}, Option.{get_or_from_slice_get, slice_get_within}}
+use Rattle.std.proofs.lemmas.{Bool.{ne_eqb, cases_eq, cases_order, Decides.nat_tests}, Cmp.nat_cmp_total, List.{drop_all, length-map, Sums.{common_prefix_len-drop_yes, common_prefix_len-drop_no}}, Option.{get_or_from_slice_get, slice_get_within}}
 use Rattle.std.specs.{Prelude.◌==◌, List.{filter, common_prefix_len}, Cmp.unsigned_tied}
 use Rattle.std.specs.{Ordering.{nat_cmp, is_lt}, declared.cmp.Ordering.{Ordering, TheVariants.{Less, Equal, Greater}}}
-use Rattle.std.specs.FinMap.{find, put, is_sorted, Entries.{by_order, below_all}}
+use Rattle.std.specs.FinMap.{find, put, is_sorted, Entries.{by_order, below_all, is_sorted-put}}
 use Rattle.mm_word.specs.declared.word.Cell.{Cell}
+use Rattle.mm_model.proofs.Memories.{find_put_other}
 
 abbrev Pages : Type 0
 Pages = List (ℕ × List Cell)
@@ -39,7 +40,7 @@ find_first q e es = ap (λ b. cond b (Some e.1) (find nat_cmp q es)) (unsigned_t
 find_here : (q : ℕ) (e : ℕ × List Cell) (es : Pages) → q ≡ e.0 → find nat_cmp q (e ∷ es) ≡ Some e.1
 find_here q e es same = find_first q e es ∙ ap (λ b. cond b (Some e.1) (find nat_cmp q es)) (eq-eqb q e.0 same)
 
-find_later : (q : ℕ) (e : ℕ × List Cell) (es : Pages) → q ≢ e.0 → find nat_cmp q (e ∷ es) ≡ find nat_cmp q es
+pub find_later : (q : ℕ) (e : ℕ × List Cell) (es : Pages) → q ≢ e.0 → find nat_cmp q (e ∷ es) ≡ find nat_cmp q es
 find_later q e es ne = find_first q e es ∙ ap (λ b. cond b (Some e.1) (find nat_cmp q es)) (ne_eqb q e.0 ne)
 
 -- 2. One page after the other.
@@ -189,3 +190,55 @@ pub all_walked : (was now : List ℕ) (at : ℕ) → IsAlikeTo was now at → le
 all_walked was now at alike end =
     let none = ap (λ l. first_other (drop at was) l) (drop_all at now end) ∙ nothing_more (drop at was) in
     omega (arith, alike, none)
+
+-- 5. As many pages, and more.
+
+found_above : (k : ℕ) (es : Pages) → T (below_all nat_cmp k es) → (q : ℕ) → is_some (find nat_cmp q es) ≡ true → k < q
+found_above k [] low q some = cc
+found_above k (e ∷ es) low q some = elim (cases_eq q e.0) [
+  | inl same ↦ let lt = lt_means k e.0 (both_parts _ _ low).0 in omega (arith, same, lt)
+  | inr other ↦ found_above k es (both_parts _ _ low).1 q (ap is_some (sym (find_later q e es other)) ∙ some)
+]
+
+pub fewer : (es fs : Pages) → T (is_sorted nat_cmp es) → T (is_sorted nat_cmp fs)
+    → ((q : ℕ) → is_some (find nat_cmp q es) ≡ true → is_some (find nat_cmp q fs) ≡ true) → length es ≤ length fs
+fewer [] fs up rise all = omega arith
+fewer (e ∷ es) [] up rise all = let none = all e.0 (ap is_some (find_here e.0 e es refl)) in cc
+fewer (e ∷ es) (f ∷ fs) up rise all =
+    let tail = both_parts _ _ up in
+    let behind = both_parts _ _ rise in
+    let in_rest : (q : ℕ) → q ≢ f.0 → is_some (find nat_cmp q (e ∷ es)) ≡ true → is_some (find nat_cmp q fs) ≡ true =
+    λ q ne some. ap is_some (sym (find_later q f fs ne)) ∙ all q some in
+    elim (cases_order e.0 f.0) [
+      | inl same ↦
+        let rest = fewer es fs tail.1 behind.1 (λ q some.
+          let lt = found_above e.0 es tail.0 q some in
+          in_rest q (λ equal. omega (arith, lt, equal, same)) (ap is_some (find_later q e es (λ equal. omega (arith, lt, equal))) ∙ some)) in
+        omega (arith, rest)
+      | inr (inl less) ↦
+        let there = in_rest e.0 (λ equal. omega (arith, less, equal)) (ap is_some (find_here e.0 e es refl)) in
+        let lt = found_above f.0 fs behind.0 e.0 there in
+        absurd (omega (arith, less, lt))
+      | inr (inr more) ↦
+        let rest = fewer (e ∷ es) fs up behind.1 (λ q some.
+          let low : e.0 ≤ q = elim (cases_eq q e.0) [
+            | inl same ↦ omega (arith, same)
+            | inr other ↦ let lt = found_above e.0 es tail.0 q (ap is_some (sym (find_later q e es other)) ∙ some) in omega (arith, lt)
+          ] in
+          in_rest q (λ equal. omega (arith, more, low, equal)) some) in
+        omega (arith, rest)
+    ]
+
+-- one that is among these and not among those
+pub fewer_by_one : (es fs : Pages) (p : ℕ) → T (is_sorted nat_cmp es) → T (is_sorted nat_cmp fs) → find nat_cmp p es ≡ None → is_some (find nat_cmp p fs) ≡ true
+    → ((q : ℕ) → is_some (find nat_cmp q es) ≡ true → is_some (find nat_cmp q fs) ≡ true) → length es < length fs
+fewer_by_one es fs p up rise none some all =
+    let with_it = put nat_cmp p [] es in
+    let long = (comes_in es p [] none).long in
+    let count = length-map es (λ (e : ℕ × List Cell). e.0) in
+    let more = length-map with_it (λ (e : ℕ × List Cell). e.0) in
+    let le = fewer with_it fs (is_sorted-put nat_cmp nat_cmp_total p [] es up) rise (λ q is. elim (cases_eq q p) [
+      | inl same ↦ ap (λ n. is_some (find nat_cmp n fs)) same ∙ some
+      | inr other ↦ all q (ap is_some (sym (find_put_other es p [] q other)) ∙ is)
+    ]) in
+    omega (arith, long, count, more, le)
