@@ -1,11 +1,11 @@
 -- Slots and events of the states of an image can be kept as numbers.
 use Rattle.std.proofs.Common.{◌≡◌, ℕ, ◌<◌, List, [], ◌∷◌, map, Option, Some, None, refl, sym, ap, ◌∙◌, subst, arith, true}
-use Rattle.std.specs.{Prelude.{◌≢◌, zip}, List.{AllByRecursion, IsStrictlyIncreasing}}
+use Rattle.std.specs.{Prelude.{◌≢◌, zip}, List.{AllByRecursion, Sorted.IsStrictlyIncreasing}}
 use Rattle.mm_word.specs.Word.{IsWord}
 use Rattle.mm_model.specs.{declared.{event.Event.Event, slot.Pending.Pending}, Slot.Slot, Image.{Image, slot_limit}}
 use Rattle.mm_model.specs.State.{ThreadRow, Core, State, slot_at, queue_at, row_in, queue_of}
-use Rattle.mm_model.specs.Spelling.{IsFresh, IsImage}
-use Rattle.mm_model.specs.Fits.{IsSlot, slots_of, numbers_of, IsFormed, SlotHoldsWords, EventHoldsWords, RowHoldsWords, LoadsMatch, waits_for, Matches, identity_of}
+use Rattle.mm_model.specs.Spelling.{IsFresh, IsImage, numbers_of}
+use Rattle.mm_model.specs.Fits.{IsSlot, slots_of, IsFormed, SlotHoldsWords, EventHoldsWords, RowHoldsWords, LoadsMatch, waits_for, Matches, identity_of}
 use Rattle.mm_model.proofs.CoreRows.{each_map, each_both, row_here, row_later, rest_rises, above_first, slot_at-number, slot_has}
 use Rattle.mm_model.proofs.Shortness.{pending_short, loads_small, queued_at}
 use Rattle.mm_config.specs.{Configurations.uncounted_slot, States.IsStateOf}

@@ -17,3 +17,8 @@ pub mod PageCells
 pub mod Keepables
 pub mod NamedOnce
 pub mod OneConfig
+pub mod Noted
+pub mod PageLists
+pub mod Walks
+pub mod PutPages
+pub mod PutCells

@@ -33,12 +33,12 @@ none_at_length [] at e = omega arith
 none_at_length (x ∷ xs) zero e = cc
 none_at_length (x ∷ xs) (suc at) e = let later = none_at_length xs at e in omega (arith, later)
 
-some_at_length : {A : Type 0} (xs : List A) (at : ℕ) (x : A) → slice_get xs at ≡ Some x → at < length xs
+pub some_at_length : {A : Type 0} (xs : List A) (at : ℕ) (x : A) → slice_get xs at ≡ Some x → at < length xs
 some_at_length [] at x e = cc
 some_at_length (y ∷ xs) zero x e = omega arith
 some_at_length (y ∷ xs) (suc at) x e = let later = some_at_length xs at x e in omega (arith, later)
 
-same_numbers : (xs ys : List ℕ) → length xs ≡ length ys → ((at : ℕ) → slice_index_or xs at 0 ≡ slice_index_or ys at 0) → xs ≡ ys
+pub same_numbers : (xs ys : List ℕ) → length xs ≡ length ys → ((at : ℕ) → slice_index_or xs at 0 ≡ slice_index_or ys at 0) → xs ≡ ys
 same_numbers [] [] e h = refl
 same_numbers [] (y ∷ ys) e h = absurd (omega (arith, e))
 same_numbers (x ∷ xs) [] e h = absurd (omega (arith, e))
@@ -56,7 +56,7 @@ pub one_thing : {A : Type 0} (none : A) (kept : List A) (name : ℕ) (x y : A) �
 one_thing none kept name x y h k = sym h.is ∙ k.is
 
 -- no pair but that of 0 and 0 has the name 0
-not_none : (pairs : List (ℕ × ℕ)) (name : ℕ) (pair : ℕ × ℕ) → name ≡ 0 → IsNameOf (0, 0) pairs name pair → pair ≡ (0, 0)
+pub not_none : (pairs : List (ℕ × ℕ)) (name : ℕ) (pair : ℕ × ℕ) → name ≡ 0 → IsNameOf (0, 0) pairs name pair → pair ≡ (0, 0)
 not_none pairs name pair e h = sym h.is ∙ ap (named (0, 0) pairs) e
 
 -- 3. Trees.
@@ -107,7 +107,7 @@ outputs_tell k xs ys name h g = sym (reverse-reverse xs) ∙ ap reverse (chains_
 
 -- 5. Pages.
 
-cells_tell : (kept xs ys : List Cell) (names : List ℕ) → AllZip (λ cell leaf. IsNameOf zero_cell kept leaf cell) xs names → AllZip (λ cell leaf. IsNameOf zero_cell kept leaf cell) ys names → xs ≡ ys
+pub cells_tell : (kept xs ys : List Cell) (names : List ℕ) → AllZip (λ cell leaf. IsNameOf zero_cell kept leaf cell) xs names → AllZip (λ cell leaf. IsNameOf zero_cell kept leaf cell) ys names → xs ≡ ys
 cells_tell kept [] [] names h k = refl
 cells_tell kept [] (y ∷ ys) [] h k = absurd k
 cells_tell kept [] (y ∷ ys) (n ∷ names) h k = absurd h

@@ -73,19 +73,19 @@ module _ (i : Image) (depth : ℕ) (k : Store) (a b : State) (n m : Names) (img 
   abbrev IsQueue : ThreadRow → ℕ → Type 0
   IsQueue row name = IsQueueName k row.queue name
 
-  abbrev as : List (Slot × Slot)
-  as = zip i.slots (slots_of a.core)
+  abbrev ours : List (Slot × Slot)
+  ours = zip i.slots (slots_of a.core)
 
-  abbrev bs : List (Slot × Slot)
-  bs = zip i.slots (slots_of b.core)
+  abbrev theirs : List (Slot × Slot)
+  theirs = zip i.slots (slots_of b.core)
 
-  base_same : (at : ℕ) (x y : Slot × Slot) → slice_get as at ≡ Some x → slice_get bs at ≡ Some y → x.0 ≡ y.0
+  base_same : (at : ℕ) (x y : Slot × Slot) → slice_get ours at ≡ Some x → slice_get theirs at ≡ Some y → x.0 ≡ y.0
   base_same at x y p q =
       let one = zip_got i.slots (slots_of a.core) at x p in
       let two = zip_got i.slots (slots_of b.core) at y q in
       cc
 
-  longs : length as ≡ length bs
+  longs : length ours ≡ length theirs
   longs = zip_long i.slots (slots_of a.core) (as_many i a ha) ∙ sym (zip_long i.slots (slots_of b.core) (as_many i b hb))
 
   rows_long : length a.core.rows ≡ length b.core.rows
@@ -100,16 +100,16 @@ module _ (i : Image) (depth : ℕ) (k : Store) (a b : State) (n m : Names) (img 
     same_slots : map uncounted_slot (slots_of a.core) ≡ map uncounted_slot (slots_of b.core)
     same_slots =
         sym (zip_second i.slots (slots_of a.core) (as_many i a ha))
-        ∙ maps_same (λ (p : Slot × Slot). uncounted_slot p.1) as bs longs (λ at x y p q.
+        ∙ maps_same (λ (p : Slot × Slot). uncounted_slot p.1) ours theirs longs (λ at x y p q.
           let base = base_same at x y p q in
-          let one = leaf_is Is k.pairs depth n.slots as na.slots at x p in
-          let two = leaf_is Is k.pairs depth m.slots bs nb.slots at y q in
+          let one = leaf_is Is k.pairs depth n.slots ours na.slots at x p in
+          let two = leaf_is Is k.pairs depth m.slots theirs nb.slots at y q in
           let leaf = ap (λ (v : Names). leaf_at k.pairs depth v.slots at) e in
           let form : slot_form x.0 x.1 ≡ slot_form y.0 y.1 = sym (subst (λ l. IsNameOf [] k.lists l (slot_form x.0 x.1)) leaf one).is ∙ two.is in
-          let keeps = all_got IsKeepablePair as (slots_kept i a img ha) at x p in
-          let kept = all_got IsKeepablePair bs (slots_kept i b img hb) at y q in
+          let keeps = all_got IsKeepablePair ours (slots_kept i a img ha) at x p in
+          let kept = all_got IsKeepablePair theirs (slots_kept i b img hb) at y q in
           form_tells y.0 (uncounted_slot x.1) (uncounted_slot y.1) (subst (λ (s : Slot). IsKeepablePair (s, x.1)) base keeps) kept
-            (ap (λ (s : Slot). slot_form s x.1) (sym base) ∙ form))
+            (form_bare y.0 x.1 ∙ ap (λ (s : Slot). slot_form s x.1) (sym base) ∙ form ∙ sym (form_bare y.0 y.1)))
         ∙ zip_second i.slots (slots_of b.core) (as_many i b hb)
 
     same_queues : map (λ (r : ThreadRow). r.queue) a.core.rows ≡ map (λ (r : ThreadRow). r.queue) b.core.rows
@@ -132,7 +132,7 @@ module _ (i : Image) (depth : ℕ) (k : Store) (a b : State) (n m : Names) (img 
         sym (map-id a.core.outputs) ∙ all ∙ map-id b.core.outputs
 
     same_pages : a.memory.pages ≡ b.memory.pages
-    same_pages = same_entries nat_cmp nat_cmp_total nat_cmp-IsAntisymmetric a.memory.pages b.memory.pages ha.state.pages.rising hb.state.pages.rising (λ number.
+    same_pages = same_entries nat_cmp nat_cmp_total nat_cmp-IsAntisymmetric a.memory.pages b.memory.pages (subst T (sym ha.state.pages.rising) tt) (subst T (sym hb.state.pages.rising) tt) (λ number.
       pages_tell k (page_name k m number) (page_at a.memory number) (page_at b.memory number)
       (subst (λ (v : Names). IsOrNone (IsPageName k) (page_at a.memory number) (page_name k v number)) e (na.memory.pages number)) (nb.memory.pages number))
 
@@ -168,14 +168,14 @@ module _ (i : Image) (depth : ℕ) (k : Store) (a b : State) (n m : Names) (img 
     outputs_alike : a.core.outputs ≡ b.core.outputs
     outputs_alike = ap (λ (c : Core). c.outputs) core_same
 
-    pairs_alike : map (λ (p : Slot × Slot). uncounted_slot p.1) as ≡ map (λ (p : Slot × Slot). uncounted_slot p.1) bs
+    pairs_alike : map (λ (p : Slot × Slot). uncounted_slot p.1) ours ≡ map (λ (p : Slot × Slot). uncounted_slot p.1) theirs
     pairs_alike = zip_second i.slots (slots_of a.core) (as_many i a ha) ∙ slots_alike ∙ sym (zip_second i.slots (slots_of b.core) (as_many i b hb))
 
     name_slots : n.slots ≡ m.slots
-    name_slots = leaves_one Is k.pairs depth once.pairs n.slots m.slots as bs longs na.slots nb.slots (λ at x y p q one two h g.
+    name_slots = leaves_one Is k.pairs depth once.pairs n.slots m.slots ours theirs longs na.slots nb.slots (λ at x y p q one two h g.
       let base = base_same at x y p q in
-      let left = got_map (λ (r : Slot × Slot). uncounted_slot r.1) as at x p in
-      let right = got_map (λ (r : Slot × Slot). uncounted_slot r.1) bs at y q in
+      let left = got_map (λ (r : Slot × Slot). uncounted_slot r.1) ours at x p in
+      let right = got_map (λ (r : Slot × Slot). uncounted_slot r.1) theirs at y q in
       let here = ap (λ l. slice_get l at) pairs_alike in
       let slot : uncounted_slot x.1 ≡ uncounted_slot y.1 = cc in
       one_name [] k.lists once.lists one two (slot_form x.0 x.1) (slot_form y.0 y.1) h g

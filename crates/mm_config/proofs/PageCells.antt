@@ -6,9 +6,9 @@ use Rattle.std.proofs.Math.Seq.{take-length}
 use Rattle.mm_word.specs.declared.word.Cell.{Cell}
 use Rattle.mm_model.specs.Memory.{zero_cell}
 use Rattle.mm_pairs.specs.{Named.{HasGrown, IsNameOf}, Trees.{leaves, HasLeaves}}
-use Rattle.mm_pairs.proofs.Names.{name_stays, has_still, joined, tree_stays, leaves_stay}
+use Rattle.mm_pairs.proofs.Names.{name_stays, grown_twice, has_still, joined, tree_stays, leaves_stay}
 use Rattle.mm_config.specs.declared.{store.Store.Store}
-use Rattle.mm_config.specs.{Naming.{AreCells, IsPageName, IsOrNone}, Noting.IsKeptStill}
+use Rattle.mm_config.specs.{Naming.{AreCells, IsPageName}, Noting.{IsKeptStill, HasMoreCells}}
 
 module _ {A B : Type 0} where
   pub zip_weaker : (R Q : A → B → Type 0) → ((x : A) (y : B) → R x y → Q x y) → (xs : List A) (ys : List B) → AllZip R xs ys → AllZip Q xs ys
@@ -53,14 +53,14 @@ page_stays old new still cells name h = record {
 
 -- two trees of cells, one made after the other, joined
 pub cells_joined : (k1 k2 : Store) (now : List (ℕ × ℕ)) (d depth left right tree : ℕ) (xs ys all : List Cell) → depth ≡ suc d → all ≡ xs ++ ys
-    → IsKeptStill k1 k2 → AreCells k1 d left xs → AreCells k2 d right ys → HasGrown k2.pairs now → IsNameOf (0, 0) now tree (left, right)
+    → HasMoreCells k1 k2 → AreCells k1 d left xs → AreCells k2 d right ys → HasGrown k2.pairs now → IsNameOf (0, 0) now tree (left, right)
     → AreCells (record k2 { pairs = now }) depth tree all
-cells_joined k1 k2 now d depth left right tree xs ys all is both still l r grown name =
-    let first = has_still k1.pairs k2.pairs d left still.pairs l.inner in
+cells_joined k1 k2 now d depth left right tree xs ys all is both more l r grown name =
+    let first = has_still k1.pairs k2.pairs d left more.pairs l.inner in
     let second : HasLeaves k2.pairs d right (leaves k2.pairs d right) = record { inner = r.inner; leaves = refl } in
     let whole = joined k2.pairs now d left right tree (leaves k1.pairs d left) (leaves k2.pairs d right) grown first second name in
     let names = zip_both (λ cell leaf. IsNameOf zero_cell k2.cells leaf cell) xs ys (leaves k1.pairs d left) (leaves k2.pairs d right)
-    (names_stay k1.cells k2.cells xs (leaves k1.pairs d left) still.cells l.names) r.names in
+    (names_stay k1.cells k2.cells xs (leaves k1.pairs d left) more.cells l.names) r.names in
     let one : AreCells (record k2 { pairs = now }) (suc d) tree (xs ++ ys) = record { inner = whole.inner; names = subst (NamesCells k2.cells (xs ++ ys)) (sym whole.leaves) names } in
     subst (λ n. AreCells (record k2 { pairs = now }) n tree all) (sym is) (subst (AreCells (record k2 { pairs = now }) (suc d) tree) (sym both) one)
 
@@ -73,3 +73,13 @@ cells_set k cells now pairs tree place name new cell h grown is made = record {
   names = subst (NamesCells now (slice_set cells place cell)) (sym made.leaves)
       (zip_set (λ cell leaf. IsNameOf zero_cell now leaf cell) place cell name is cells (leaves k.pairs 9 tree) (names_stay k.cells now cells (leaves k.pairs 9 tree) grown h.names));
 }
+
+pub more_twice : (a b c : Store) → HasMoreCells a b → HasMoreCells b c → HasMoreCells a c
+more_twice a b c h g = record {
+  pairs = grown_twice a.pairs b.pairs c.pairs h.pairs g.pairs;
+  cells = grown_twice a.cells b.cells c.cells h.cells g.cells;
+  others = g.others ∙ ap (λ (k : Store). record k { pairs = c.pairs; cells = c.cells }) h.others;
+}
+
+pub more_pairs : (k : Store) (pairs : List (ℕ × ℕ)) → HasGrown k.pairs pairs → HasMoreCells k (record k { pairs = pairs })
+more_pairs k pairs grown = record { pairs = grown; cells = take-length k.cells; others = refl }

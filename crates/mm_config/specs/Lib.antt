@@ -5,5 +5,6 @@ pub mod Forms
 pub mod Places
 pub mod Naming
 pub mod Noting
+pub mod Putting
 pub mod Machines
 pub mod Keeping

@@ -1,5 +1,5 @@
 -- What noting a change of the memory leaves.
-use Rattle.std.specs.Prelude.{◌≡◌, ◌⊎◌, ℕ, List, true, nat_eq, if◌then◌else◌, None}
+use Rattle.std.specs.Prelude.{◌≡◌, ◌⊎◌, ℕ, List, map, true, nat_eq, if◌then◌else◌, None}
 use Rattle.mm_word.specs.declared.word.Cell.{Cell}
 use Rattle.mm_model.specs.Memory.{Memory, page_at, is_mapped, put_cell, map_page, unmap_page}
 use Rattle.mm_pairs.specs.{Named.HasGrown, Trees.IsTree}
@@ -13,6 +13,12 @@ pub record IsKeptStill (old new : Store) : Type 0 where
   pub lists : HasGrown old.lists new.lists
   pub cells : HasGrown old.cells new.cells
   pub pages : HasGrown old.pages new.pages
+
+-- with more trees, and more cells
+pub record HasMoreCells (old new : Store) : Type 0 where
+  pub pairs : HasGrown old.pairs new.pairs
+  pub cells : HasGrown old.cells new.cells
+  pub others : new ≡ record old { pairs = new.pairs; cells = new.cells }
 
 -- names are as before, but for the tree of pages
 abbrev pub HasOtherPages : Names → Names → Type 0
@@ -35,6 +41,10 @@ pub record PutsPage (old : Store) (was : Names) (number name : ℕ) (new : Store
 -- a memory with another cell at a word
 abbrev pub IsWrittenAt : ℕ → Memory → Memory → Type 0
 IsWrittenAt word m now = (c : Cell) × (now ≡ put_cell m word c)
+
+-- the numbers of the mapped pages
+abbrev pub mapped_pages : Memory → List ℕ
+mapped_pages m = map (λ e. e.0) m.pages
 
 -- a memory with a page more, or one less
 abbrev pub HasOtherPage : Memory → Memory → Type 0

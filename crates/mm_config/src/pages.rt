@@ -1,9 +1,11 @@
 //! Trees of pages, each of which is a tree of cells.
 
-ghost use Rattle.std.specs.Prelude.{◌≡◌, ℕ, ◌<◌, ◌≤◌, ◌^◌, IfOk, OnOk, length};
+ghost use Rattle.std.specs.Prelude.{◌≡◌, ◌<◌, ◌≤◌, ◌^◌, [], IfOk, IsTrue, OnOk, length};
+ghost use Rattle.std.specs.FinMap.{is_sorted};
+ghost use Rattle.std.specs.Ordering.{nat_cmp};
 ghost use Rattle.mm_pairs.specs.Trees.{IsTree};
-ghost use Rattle.mm_config.specs.Naming.{AreCells, IsTreeOfPages, page_name, IsLow};
-ghost use Rattle.mm_config.specs.Noting.{IsKeptStill, IsSameTree, PutsPage};
+ghost use Rattle.mm_config.specs.Naming.{AreCells, AreMemoryNames, IsTreeOfPages, page_name, IsLow};
+ghost use Rattle.mm_config.specs.Noting.{HasMoreCells, HasOtherPages, IsKeptStill, IsSameTree, PutsPage};
 
 use crate::names::Names;
 use crate::store::Store;
@@ -20,14 +22,15 @@ fn name_cells(store: &mut Store, cells: &[Cell], depth: u32) -> Result<u32, Allo
     requires count { length cells.now ≡ 2 ^ depth }
     requires small { depth < 64 }
     ensures tree { IfOk result (λ tree. AreCells store.new depth tree cells.now) }
-    ensures still { OnOk result (IsKeptStill store.old store.new) }
+    ensures more { OnOk result (HasMoreCells store.old store.new) }
 {
     if depth == 0 {
         return store.cells.name(&cells[0]);
     }
     let half = 1 << (depth - 1);
-    let left = name_cells(store, &cells[..half], depth - 1)?;
-    let right = name_cells(store, &cells[half..], depth - 1)?;
+    let (first, second) = cells.split_at(half);
+    let left = name_cells(store, first, depth - 1)?;
+    let right = name_cells(store, second, depth - 1)?;
     store.pairs.join(left, right)
 }
 
@@ -93,7 +96,13 @@ pub(crate) fn note_pages(
     store: &mut Store,
     names: &mut Names,
     pages: &[Page],
-) -> Result<(), AllocError> {
+) -> Result<(), AllocError>
+    requires none { AreMemoryNames store.old (record { pages = []; frames = 0 }) names.old }
+    requires rising { IsTrue (is_sorted nat_cmp pages.now) }
+    ensures names { OnOk result (AreMemoryNames store.new (record { pages = pages.now; frames = 0 }) names.new) }
+    ensures still { OnOk result (IsKeptStill store.old store.new) }
+    ensures others { OnOk result (HasOtherPages names.old names.new) }
+{
     for page in pages {
         let cells = name_cells(store, page.cells(), DEPTH)?;
         let name = store.pairs.join(1, cells)?;
