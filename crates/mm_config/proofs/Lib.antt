@@ -7,6 +7,7 @@ pub mod EventForms
 pub mod States
 pub mod Zips
 pub mod Keys
+pub mod Staying
 pub mod Revising
 pub mod Turned
 pub mod CellForms

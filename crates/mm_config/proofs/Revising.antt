@@ -7,18 +7,9 @@ use Rattle.mm_model.specs.{declared.event.Event.Event, Slot.Slot, State.{ThreadR
 use Rattle.mm_model.proofs.CoreRows.{each_map}
 use Rattle.mm_thread.specs.SlotIndices.{no_slot, no_row, row_at, slot_in, queue_in, with_queue_in}
 use Rattle.mm_thread.specs.Revisions.{Extension, with_slots, with_queues, with_outputs, revised}
+use Rattle.mm_config.specs.Reaching.{IsListed, Extends}
 
--- an index is one of those listed
-abbrev pub IsListed : {A : Type 0} → (A → ℕ) → ℕ → List A → Type 0
-IsListed of k [] = ⊥
-IsListed of k (x ∷ xs) = (of x ≡ k) ⊎ IsListed of k xs
-
--- bytes that stay and those after them are an output of the core that is wanted
-pub record Extends (core wanted : Core) (x : Extension) : Type 0 where
-  pub inside : x.group < length core.outputs
-  pub kept : x.kept ≤ length (output_of core x.group)
-  pub is : take x.kept (output_of core x.group) ++ x.bytes ≡ output_of wanted x.group
-
+-- what leads from a core to another
 pub record LeadsTo (core wanted : Core) (changed : List Bool) (slots : List Slot) (queues : List (ℕ × List Event)) (outputs : List Extension) : Type 0 where
   pub rows : length core.rows ≡ length wanted.rows
   pub groups : length core.outputs ≡ length wanted.outputs

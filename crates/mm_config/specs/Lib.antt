@@ -8,3 +8,5 @@ pub mod Noting
 pub mod Putting
 pub mod Machines
 pub mod Keeping
+pub mod Reaching
+pub mod Turning

@@ -26,6 +26,7 @@ mod note;
 mod pages;
 mod places;
 mod put;
+mod put_memory;
 mod reader;
 mod slot_form;
 mod store;

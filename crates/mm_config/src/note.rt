@@ -1,6 +1,12 @@
 //! Noting what a turn may have changed: its slot, the slots that this handles and that did not run, the queue of its handler
 //! and its own, the output of its group, a page, and the word that it accessed.
 
+ghost use Rattle.std.specs.Prelude.{◌≡◌, ◌<◌, ◌^◌, OnOk, length};
+ghost use Rattle.mm_model.specs.Run.{after};
+ghost use Rattle.mm_config.specs.Configurations.{configuration};
+ghost use Rattle.mm_config.specs.Keeping.{Stands};
+ghost use Rattle.mm_config.specs.Turning.{HasTurned, IsBefore, HasTrees, NotesSlots, IsServedBy, NotesQueues};
+
 use crate::configs::Configs;
 use crate::events::put_events;
 use crate::memory::{note_cell, note_page};
@@ -47,7 +53,9 @@ impl Configs {
     }
 
     /// What the machine is before the turn of an item.
-    pub(crate) fn before(&self, item: u8) -> Before {
+    pub(crate) fn before(&self, item: u8) -> Before
+        ensures { IsBefore self.now item result }
+    {
         let put_out = match self.core.slot(item % 128) {
             Some(slot) => self.core.output(slot.group).len(),
             None => 0,
@@ -60,7 +68,11 @@ impl Configs {
     }
 
     /// Notes what a turn changed.
-    pub(crate) fn note(&mut self, step: &Step, before: Before) -> Result<(), AllocError> {
+    pub(crate) fn note(&mut self, step: &Step, before: Before) -> Result<(), AllocError>
+        requires { HasTurned before step.now self.old }
+        ensures { OnOk result ((t : HasTurned before step.now self.old)
+            → Stands t.image (record t.at { machine = configuration (after t.at.machine t.item) }) self.new) }
+    {
         let Some(at) = self.core.place(step.slot) else {
             return Ok(());
         };
@@ -78,7 +90,11 @@ impl Configs {
     }
 
     /// Notes the slot at an index.
-    fn note_slot(&mut self, at: usize) -> Result<(), AllocError> {
+    fn note_slot(&mut self, at: usize) -> Result<(), AllocError>
+        requires trees { HasTrees self.old }
+        requires within { at < length self.old.base.items }
+        ensures { OnOk result (NotesSlots (λ k. k ≡ at) self.old self.new) }
+    {
         self.numbers.clear();
         put_slot(&mut self.numbers, &self.base[at], self.core.nth(at))?;
         let name = self.store.lists.name(self.alloc, &self.numbers)?;
@@ -90,7 +106,10 @@ impl Configs {
     }
 
     /// Notes the slots that a slot handles, but for those that ran before the turn.
-    fn note_served(&mut self, handler: u8, running: u64) -> Result<(), AllocError> {
+    fn note_served(&mut self, handler: u8, running: u64) -> Result<(), AllocError>
+        requires { HasTrees self.old }
+        ensures { OnOk result (NotesSlots (IsServedBy self.old.base.items handler running) self.old self.new) }
+    {
         for at in 0..self.base.len() {
             let slot = &self.base[at];
             if slot.handler == Some(handler) && running >> slot.number & 1 == 0 {
@@ -122,7 +141,12 @@ impl Configs {
     }
 
     /// Notes the queue of the slot at an index.
-    fn note_queue(&mut self, at: usize) -> Result<(), AllocError> {
+    fn note_queue(&mut self, at: usize) -> Result<(), AllocError>
+        requires trees { HasTrees self.old }
+        requires within { at < length self.old.base.items }
+        ensures { OnOk result (NotesQueues (λ k. k ≡ at) self.old self.new) }
+    {
+        self.core.known();
         self.numbers.clear();
         put_events(&mut self.numbers, self.core.queue(self.base[at].number))?;
         let name = self.store.lists.name(self.alloc, &self.numbers)?;

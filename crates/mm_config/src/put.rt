@@ -1,74 +1,97 @@
 //! Putting the machine to a configuration: the parts whose names differ are read.
 
+ghost use Rattle.std.specs.Prelude.{◌≡◌, ◌<◌, ◌≤◌, ◌++◌, ℕ, List, [], IfOk, OnOk, length, take};
+ghost use Rattle.std.specs.List.{AllByRecursion};
+ghost use Rattle.mm_config.specs.Forms.{slot_from};
+ghost use Rattle.mm_config.specs.Naming.{IsOutputName};
+ghost use Rattle.mm_config.specs.Noting.{mapped_pages};
+ghost use Rattle.mm_config.specs.Keeping.{Stands};
+ghost use Rattle.mm_config.specs.Reaching.{HasConfiguration, Reaches, HasPutCore, HasReadSlots, HasReadQueues, HasReadOutputs};
+ghost use Rattle.mm_pairs.specs.Named.{named};
+
 use crate::configs::Configs;
 use crate::events::take_events;
 use crate::names::Names;
 use crate::note::GROUPS;
-use crate::pages::DEPTH;
+use crate::put_memory::put_memory;
 use crate::reader::Reader;
 use crate::slot_form::take_slot;
 use crate::store::Store;
-use mm_mem::{Inspect, Memory};
-use mm_pairs::Pairs;
+use mm_mem::Inspect;
+use mm_model::Slot;
 use std::alloc::{AllocError, Global};
 
 impl Configs {
     /// Puts the machine to the configuration of these names: of the slots, and of the rest.
-    pub(crate) fn put_names(&mut self, slots: u32, rest: u32) -> Result<(), AllocError> {
+    pub(crate) fn put_names(&mut self, slots: u32, rest: u32) -> Result<(), AllocError>
+        requires { HasConfiguration self.old (slots, rest) }
+        ensures { OnOk result ((h : HasConfiguration self.old (slots, rest))
+            → Stands h.image (record h.at { machine = h.state }) self.new) }
+    {
+        self.store.apart();
         if slots == self.names.slots && rest == self.rest {
             return Ok(());
         }
-        let wanted = if rest == self.rest {
-            Names { slots, ..self.names }
-        } else {
-            Names::of(&self.store.pairs, slots, rest)
-        };
+        let wanted = Names::of(&self.store.pairs, slots, rest);
         self.put_core(&wanted)?;
-        self.put_pages(&wanted)?;
+        put_memory(
+            &mut self.store,
+            &mut self.mem,
+            (&self.names, &wanted),
+            &mut self.changed,
+            &mut self.changed_cells,
+        )?;
+        self.list_mapped()?;
         self.names = wanted;
         self.rest = rest;
         Ok(())
     }
 
     /// Puts the slots, the queues and the outputs.
-    fn put_core(&mut self, wanted: &Names) -> Result<(), AllocError> {
-        let changed = self.read_slots(wanted.slots)?;
-        self.revision.clear();
-        self.read_queues(wanted.queues)?;
-        self.read_outputs(wanted.outputs)?;
+    fn put_core(&mut self, wanted: &Names) -> Result<(), AllocError>
+        requires { Reaches wanted.now self.old }
+        ensures { OnOk result ((r : Reaches wanted.now self.old) → HasPutCore r.state.core self.old self.new) }
+    {
+        self.core.known();
+        let changed = self.read_slots(wanted)?;
+        self.read_queues(wanted)?;
+        self.read_outputs(wanted)?;
         self.core.revise(changed, &self.slots, &self.revision);
         Ok(())
     }
 
     /// Reads the slots that change, and says which they are, the first in the lowest bit.
-    fn read_slots(&mut self, wanted: u32) -> Result<u64, AllocError> {
+    fn read_slots(&mut self, wanted: &Names) -> Result<u64, AllocError>
+        requires { Reaches wanted.now self.old }
+        ensures { IfOk result (λ changed. (r : Reaches wanted.now self.old) → HasReadSlots r.state.core self.old self.new changed) }
+    {
         self.changed.clear();
         self.store.pairs.list_changed(
             self.names.slots,
-            wanted,
+            wanted.slots,
             self.depth,
             0,
             &mut self.changed,
         )?;
-        let mut changed = 0;
+        let mut mask = 0;
         for (at, name) in self.changed.as_slice() {
             let at = *at as usize;
-            let mut reader = Reader::new(self.store.lists.get(*name));
-            take_slot(&mut reader, &self.base[at], &mut self.slots[at]);
-            changed |= 1 << at;
+            read_slot(&self.store, *name, &self.base[at], &mut self.slots[at]);
+            mask |= 1 << at;
         }
-        Ok(changed)
+        Ok(mask)
     }
 
     /// Reads the queues that change.
-    fn read_queues(&mut self, wanted: u32) -> Result<(), AllocError> {
-        if wanted == self.names.queues {
-            return Ok(());
-        }
+    fn read_queues(&mut self, wanted: &Names) -> Result<(), AllocError>
+        requires { Reaches wanted.now self.old }
+        ensures { OnOk result ((r : Reaches wanted.now self.old) → HasReadQueues r.state.core self.old self.new) }
+    {
+        self.revision.queues.clear();
         self.changed.clear();
         self.store.pairs.list_changed(
             self.names.queues,
-            wanted,
+            wanted.queues,
             self.depth,
             0,
             &mut self.changed,
@@ -82,14 +105,15 @@ impl Configs {
     }
 
     /// Reads the outputs that change.
-    fn read_outputs(&mut self, wanted: u32) -> Result<(), AllocError> {
-        if wanted == self.names.outputs {
-            return Ok(());
-        }
+    fn read_outputs(&mut self, wanted: &Names) -> Result<(), AllocError>
+        requires { Reaches wanted.now self.old }
+        ensures { OnOk result ((r : Reaches wanted.now self.old) → HasReadOutputs r.state.core self.old self.new) }
+    {
+        self.revision.outputs.clear();
         self.changed.clear();
         self.store.pairs.list_changed(
             self.names.outputs,
-            wanted,
+            wanted.outputs,
             GROUPS,
             0,
             &mut self.changed,
@@ -103,75 +127,11 @@ impl Configs {
         Ok(())
     }
 
-    /// Puts the pages.
-    fn put_pages(&mut self, wanted: &Names) -> Result<(), AllocError> {
-        if wanted.pages == self.names.pages && wanted.height == self.names.height {
-            return Ok(());
-        }
-        let height = wanted.height.max(self.names.height);
-        let was = raised(&mut self.store.pairs, &self.names, height)?;
-        let pages = raised(&mut self.store.pairs, wanted, height)?;
-        self.changed.clear();
-        self.store
-            .pairs
-            .list_changed(was, pages, height, 0, &mut self.changed)?;
-        let moved = self.unmap_pages() | self.map_pages(was, height);
-        for k in 0..self.changed.len() {
-            let (place, page) = self.changed[k];
-            let before = self.store.pairs.leaf(was, height, place);
-            self.put_cells(place, before, page)?;
-        }
-        if moved {
-            self.list_mapped()?;
-        }
-        Ok(())
-    }
-
-    /// Unmaps the pages that are mapped no more, and says whether there are any.
-    fn unmap_pages(&mut self) -> bool {
-        let mut some = false;
-        for (place, page) in self.changed.as_slice() {
-            if *page == 0 {
-                self.mem.unmap(self.store.pages.number(*place));
-                some = true;
-            }
-        }
-        some
-    }
-
-    /// Maps the pages that were not mapped, and says whether there are any. It comes after the others were unmapped, so
-    /// that there are frames.
-    fn map_pages(&mut self, was: u32, height: u32) -> bool {
-        let mut some = false;
-        for (place, _) in self.changed.as_slice() {
-            if self.store.pairs.leaf(was, height, *place) == 0 {
-                self.mem.map(self.store.pages.number(*place));
-                some = true;
-            }
-        }
-        some
-    }
-
-    /// Puts the cells of a page, given its name before. A page that was just mapped has zeros, as one without a name.
-    fn put_cells(&mut self, place: u64, before: u32, page: u32) -> Result<(), AllocError> {
-        if page == 0 {
-            return Ok(());
-        }
-        let number = self.store.pages.number(place);
-        let (_, was) = self.store.pairs.parts(before);
-        let (_, cells) = self.store.pairs.parts(page);
-        self.changed_cells.clear();
-        self.store
-            .pairs
-            .list_changed(was, cells, DEPTH, 0, &mut self.changed_cells)?;
-        for (at, name) in self.changed_cells.as_slice() {
-            self.mem.put(number * 4096 + 8 * *at, self.store.cells.get(*name));
-        }
-        Ok(())
-    }
-
     /// Lists the mapped pages anew.
-    pub(crate) fn list_mapped(&mut self) -> Result<(), AllocError> {
+    pub(crate) fn list_mapped(&mut self) -> Result<(), AllocError>
+        ensures { OnOk result ((self.new.mapped.items ≡ mapped_pages self.old.mem.memory)
+            × (self.new ≡ record self.old { mapped = self.new.mapped })) }
+    {
         self.mapped.clear();
         for i in 0..self.mem.pages() {
             self.mapped.push(self.mem.page_at(i))?;
@@ -180,13 +140,12 @@ impl Configs {
     }
 }
 
-/// The tree of pages, made as deep as this.
-fn raised(pairs: &mut Pairs, names: &Names, depth: u32) -> Result<u32, AllocError> {
-    let mut tree = names.pages;
-    for _ in names.height..depth {
-        tree = pairs.join(tree, 0)?;
-    }
-    Ok(tree)
+/// Reads the slot of a name.
+fn read_slot(store: &Store, name: u32, base: &Slot, slot: &mut Slot)
+    requires { name ≤ length store.now.lists }
+    ensures { slot.new ≡ slot_from base.now (named [] store.now.lists name) }
+{
+    take_slot(&mut Reader::new(store.lists.get(name)), base, slot);
 }
 
 /// How many bytes of an output stay when another takes its place, and the bytes of the other after these. The name of an
@@ -197,7 +156,12 @@ fn changed_output(
     was: u32,
     wanted: u32,
     len: usize,
-) -> Result<(usize, Vec<u8>), AllocError> {
+) -> Result<(usize, Vec<u8>), AllocError>
+    requires was { (old : List ℕ) × IsOutputName store.now old was × (len ≡ length old) }
+    requires wanted { (new : List ℕ) × IsOutputName store.now new wanted × AllByRecursion (λ byte. byte < 256) new }
+    ensures { IfOk result (λ r. (old new : List ℕ) → IsOutputName store.now old was → len ≡ length old → IsOutputName store.now new wanted
+        → (r.0 ≤ length old) × (take r.0 old ++ r.1.items ≡ new)) }
+{
     let mut bytes = Vec::new(alloc);
     let mut kept = len;
     let mut was = was;

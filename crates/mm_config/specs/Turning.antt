@@ -1,0 +1,75 @@
+-- What is noted of a turn.
+use Rattle.std.specs.Prelude.{◌≡◌, ◌⊎◌, ◌↔◌, ℕ, ◌<◌, ◌≤◌, ◌^◌, ◌%◌, List, length, slice_index_or, Some, IsSomeAnd}
+use Rattle.std.specs.{Prelude.{IsBitSet, IfSome, IfNone}, Option.option_copied}
+use Rattle.mm_model.specs.declared.{slot.SlotState.TheVariants.Running, step.Step.Step}
+use Rattle.mm_model.specs.{Image.Image, Slot.Slot, State.{Core, slot_at, output_of}, Run.turn_of}
+use Rattle.mm_thread.specs.SlotIndices.{no_slot, slot_in, queue_in}
+use Rattle.mm_pairs.specs.Trees.{IsTree}
+use Rattle.mm_config.specs.declared.configs.Configs as code
+use Rattle.mm_config.specs.declared.note.Before.{Before}
+use Rattle.mm_config.specs.{Machines.Configs, Naming.{IsSlotName, IsQueueName, leaf_at}, Noting.IsKeptStill, Keeping.Stands}
+
+-- 1. Before a turn, and after it.
+
+-- what a machine was before the turn of an item
+pub record IsBefore (c : code.Configs) (item : ℕ) (b : Before) : Type 0 where
+  pub running : (n : ℕ) → IsBitSet b.running n ↔ IsSomeAnd (slot_at c.core n) (λ s. s.state ≡ Running)
+  pub pages : b.pages ≡ length c.mem.memory.pages
+  pub put_out : IfSome (slot_at c.core (item % 128)) (λ s. b.put_out ≡ length (output_of c.core s.group))
+
+-- the core and the memory have made the turn of an item, and nothing was noted of it
+pub record HasTurned (b : Before) (step : Step) (c : code.Configs) : Type 0 where
+  pub image : Image
+  pub at : Configs
+  pub item : ℕ
+  pub was : code.Configs
+  pub stands : Stands image at was
+  pub byte : item < 256
+  pub before : IsBefore was item b
+  pub core : c.core ≡ (turn_of at.machine item).core
+  pub memory : c.mem.memory ≡ (turn_of at.machine item).memory
+  pub uses : c.mem.uses < 2 ^ 61
+  pub step : step ≡ (turn_of at.machine item).step
+  pub others : c ≡ record was { core = c.core; mem = c.mem }
+
+-- 2. Leaves.
+
+-- the names are trees with a leaf for each slot
+pub record HasTrees (c : code.Configs) : Type 0 where
+  pub depth : c.depth ≤ 6
+  pub wide : length c.base.items ≤ 2 ^ c.depth
+  pub many : length c.base.items ≡ length c.core.rows
+  pub slots : IsTree c.store.pairs c.depth c.names.slots
+  pub queues : IsTree c.store.pairs c.depth c.names.queues
+
+-- each leaf is the name of what is at its place, or is as it was, and not one of those that have to be noted
+pub record NotesLeaves (Is : (at name : ℕ) → Type 0) (IsOne : ℕ → Type 0) (old : List (ℕ × ℕ)) (depth was : ℕ) (new : List (ℕ × ℕ)) (tree : ℕ) : Type 0 where
+  pub inner : IsTree new depth tree
+  pub each : (at : ℕ) → Is at (leaf_at new depth tree at) ⊎ ((IsOne at → ⊥) × (leaf_at new depth tree at ≡ leaf_at old depth was at))
+
+-- 3. Slots.
+
+abbrev pub IsSlotNamed : code.Configs → (at name : ℕ) → Type 0
+IsSlotNamed c at name =
+    (at < length c.base.items) × IsSlotName c.store (slice_index_or c.base.items at no_slot) (slot_in c.core at) name
+
+pub record NotesSlots (IsOne : ℕ → Type 0) (old new : code.Configs) : Type 0 where
+  pub still : IsKeptStill old.store new.store
+  pub leaves : NotesLeaves (IsSlotNamed new) IsOne old.store.pairs old.depth old.names.slots new.store.pairs new.names.slots
+  pub others : new ≡ record old { store = new.store; names = record old.names { slots = new.names.slots }; numbers = new.numbers }
+
+-- the slot at an index is handled by the slot `by`, and did not run
+pub record IsServedBy (base : List Slot) (by running at : ℕ) : Type 0 where
+  pub within : at < length base
+  pub handler : (slice_index_or base at no_slot).handler ≡ Some by
+  pub rests : IsBitSet running (slice_index_or base at no_slot).number → ⊥
+
+-- 4. Queues.
+
+abbrev pub IsQueueNamed : code.Configs → (at name : ℕ) → Type 0
+IsQueueNamed c at name = (at < length c.base.items) × IsQueueName c.store (queue_in c.core at) name
+
+pub record NotesQueues (IsOne : ℕ → Type 0) (old new : code.Configs) : Type 0 where
+  pub still : IsKeptStill old.store new.store
+  pub leaves : NotesLeaves (IsQueueNamed new) IsOne old.store.pairs old.depth old.names.queues new.store.pairs new.names.queues
+  pub others : new ≡ record old { store = new.store; names = record old.names { queues = new.names.queues }; numbers = new.numbers }
