@@ -192,7 +192,7 @@ zero_at (suc n) (suc at) = zero_at n at
 pub zero_cells : (k : Store) → AreCells k 9 0 zero_page
 zero_cells k =
     let all : leaves k.pairs 9 0 ≡ replicate 512 0 =
-    same_numbers (leaves k.pairs 9 0) (replicate 512 0) (length_leaves k.pairs 9 0 ∙ sym (length-replicate 512 0)) (λ at. none_at k.pairs 9 at ∙ sym (zero_at 512 at)) in
+    same_numbers (leaves k.pairs 9 0) (replicate 512 0) (length_leaves k.pairs 9 0 ∙ sym (let none : ℕ = 0 in length-replicate 512 none)) (λ at. none_at k.pairs 9 at ∙ sym (zero_at 512 at)) in
     record { inner = none_tree k.pairs 9; names = subst (AllZip (λ cell leaf. IsNameOf zero_cell k.cells leaf cell) zero_page) (sym all) (zero_leaves 512 k.cells) }
 
 -- 4. A page that came or went.
