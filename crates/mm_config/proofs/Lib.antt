@@ -5,6 +5,8 @@ pub mod Taking
 pub mod Masks
 pub mod EventForms
 pub mod States
+pub mod Zips
+pub mod Keys
 pub mod Revising
 pub mod Turned
 pub mod CellForms

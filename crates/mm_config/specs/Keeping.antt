@@ -2,7 +2,8 @@
 use Rattle.std.specs.Prelude.{◌≡◌, ℕ, ◌^◌, ◌<◌, ◌≤◌, List, map, length, zip}
 use Rattle.std.specs.List.{AllByRecursion, AllZip}
 use Rattle.mm_model.specs.{Image.Image, Slot.Slot, Spelling.IsImage, Fits.{slots_of, identity_of}, State.State}
-use Rattle.mm_config.specs.declared.{configs.Configs as code, names.Names.Names, store.Store.Store}
+use Rattle.mm_config.specs.declared.configs.Configs as code
+use Rattle.mm_config.specs.declared.{names.Names.Names, store.Store.Store}
 use Rattle.mm_config.specs.{Configurations.configuration, Machines.Configs, Naming.{AreNamesOf, IsRest}, States.IsStateOf}
 
 -- a configuration of a machine of an image
@@ -27,8 +28,8 @@ pub record IsMachineAt (i : Image) (s : State) (c : code.Configs) : Type 0 where
 
 -- the names are those of a configuration
 pub record HasNamesOf (i : Image) (s : State) (c : code.Configs) : Type 0 where
-  pub names : AreNamesOf i.slots c.depth c.store s c.now
-  pub rest : IsRest c.store.pairs c.now c.rest
+  pub names : AreNamesOf i.slots c.depth c.store s c.names
+  pub rest : IsRest c.store.pairs c.names c.rest
 
 -- the machine of an image with its configurations is as it is told
 pub record Stands (i : Image) (v : Configs) (c : code.Configs) : Type 0 where

@@ -47,7 +47,7 @@ pub struct Configs {
     /// The depth of the trees of slots and of queues.
     pub(crate) depth: u32,
     /// The names of the parts of the machine's configuration.
-    pub(crate) now: Names,
+    pub(crate) names: Names,
     /// The name of all of them but the slots.
     pub(crate) rest: u32,
     /// The names of each configuration that was kept: of the slots, and of the rest.
@@ -87,7 +87,7 @@ impl Configs {
             mapped: Vec::new(alloc),
             store: Store::new(alloc),
             depth: depth_for(img.slots().len()),
-            now: Names::NONE,
+            names: Names::NONE,
             rest: 0,
             kept: IndexSet::new(alloc),
             slots: Slot::copies(alloc, img.slots())?,
@@ -147,19 +147,20 @@ impl Configs {
         ensures { IfOk result (λ looked. (i : ImageValue) (v : ConfigsValue) → Stands i v self.old
             → (now : ConfigsValue) × Stands i now self.new × Keeps limit looked v now) }
     {
-        let key = (self.now.slots, self.rest);
+        self.store.apart();
+        let key = (self.names.slots, self.rest);
         if self.kept.len() >= limit {
-            return match self.kept.get_index_of(&key) {
-                Some(at) => Ok(Looked::Known(at as u32)),
-                None => Ok(Looked::Full),
-            };
+            return Ok(match self.kept.get_index_of(&key) {
+                Some(at) => Looked::Known(at as u32),
+                None => Looked::Full,
+            });
         }
         let (at, new) = self.kept.insert_full(key)?;
-        if new {
-            Ok(Looked::New)
+        Ok(if new {
+            Looked::New
         } else {
-            Ok(Looked::Known(at as u32))
-        }
+            Looked::Known(at as u32)
+        })
     }
 
     /// The slots in which two configurations that were kept differ, by their indices, the first in the lowest bit.

@@ -40,9 +40,9 @@ impl Configs {
         for at in 0..self.base.len() {
             self.note_slot(at)?;
         }
-        note_pages(&mut self.store, &mut self.now, pages)?;
+        note_pages(&mut self.store, &mut self.names, pages)?;
         self.list_mapped()?;
-        self.rest = self.now.rest(&mut self.store.pairs)?;
+        self.rest = self.names.rest(&mut self.store.pairs)?;
         Ok(())
     }
 
@@ -67,12 +67,12 @@ impl Configs {
         self.core.uncount(at);
         self.note_slot(at)?;
         self.note_served(step.slot, before.running)?;
-        let was = self.now;
+        let was = self.names;
         self.note_queues(at, step)?;
         self.note_output(self.base[at].group, before.put_out)?;
         self.note_memory(step, before.pages)?;
-        if !self.now.is_same_rest(&was) {
-            self.rest = self.now.rest(&mut self.store.pairs)?;
+        if !self.names.is_same_rest(&was) {
+            self.rest = self.names.rest(&mut self.store.pairs)?;
         }
         Ok(())
     }
@@ -82,10 +82,10 @@ impl Configs {
         self.numbers.clear();
         put_slot(&mut self.numbers, &self.base[at], self.core.nth(at))?;
         let name = self.store.lists.name(self.alloc, &self.numbers)?;
-        self.now.slots =
+        self.names.slots =
             self.store
                 .pairs
-                .with_leaf(self.now.slots, self.depth, at as u64, name)?;
+                .with_leaf(self.names.slots, self.depth, at as u64, name)?;
         Ok(())
     }
 
@@ -107,7 +107,7 @@ impl Configs {
                 self.note_queue_of(handler)?;
             }
         }
-        if self.now.queues != 0 {
+        if self.names.queues != 0 {
             self.note_queue(at)?;
         }
         Ok(())
@@ -126,10 +126,10 @@ impl Configs {
         self.numbers.clear();
         put_events(&mut self.numbers, self.core.queue(self.base[at].number))?;
         let name = self.store.lists.name(self.alloc, &self.numbers)?;
-        self.now.queues =
+        self.names.queues =
             self.store
                 .pairs
-                .with_leaf(self.now.queues, self.depth, at as u64, name)?;
+                .with_leaf(self.names.queues, self.depth, at as u64, name)?;
         Ok(())
     }
 
@@ -141,22 +141,22 @@ impl Configs {
         }
         let byte = u32::from(output[output.len() - 1]);
         let place = u64::from(group);
-        let shorter = self.store.pairs.leaf(self.now.outputs, GROUPS, place);
+        let shorter = self.store.pairs.leaf(self.names.outputs, GROUPS, place);
         let name = self.store.outputs.join(shorter, byte + 1)?;
-        self.now.outputs =
+        self.names.outputs =
             self.store
                 .pairs
-                .with_leaf(self.now.outputs, GROUPS, place, name)?;
+                .with_leaf(self.names.outputs, GROUPS, place, name)?;
         Ok(())
     }
 
     /// Notes the page that a turn mapped or unmapped, and the word that it may have written.
     fn note_memory(&mut self, step: &Step, pages: u32) -> Result<(), AllocError> {
         if self.mem.pages() != pages {
-            note_page(&mut self.store, &mut self.now, &mut self.mapped, &self.mem)?;
+            note_page(&mut self.store, &mut self.names, &mut self.mapped, &self.mem)?;
         }
         match written(step.touched) {
-            Some(word) => note_cell(&mut self.store, &mut self.now, &self.mem, word),
+            Some(word) => note_cell(&mut self.store, &mut self.names, &self.mem, word),
             None => Ok(()),
         }
     }

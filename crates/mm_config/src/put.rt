@@ -15,17 +15,17 @@ use std::alloc::{AllocError, Global};
 impl Configs {
     /// Puts the machine to the configuration of these names: of the slots, and of the rest.
     pub(crate) fn put_names(&mut self, slots: u32, rest: u32) -> Result<(), AllocError> {
-        if slots == self.now.slots && rest == self.rest {
+        if slots == self.names.slots && rest == self.rest {
             return Ok(());
         }
         let wanted = if rest == self.rest {
-            Names { slots, ..self.now }
+            Names { slots, ..self.names }
         } else {
             Names::of(&self.store.pairs, slots, rest)
         };
         self.put_core(&wanted)?;
         self.put_pages(&wanted)?;
-        self.now = wanted;
+        self.names = wanted;
         self.rest = rest;
         Ok(())
     }
@@ -44,7 +44,7 @@ impl Configs {
     fn read_slots(&mut self, wanted: u32) -> Result<u64, AllocError> {
         self.changed.clear();
         self.store.pairs.list_changed(
-            self.now.slots,
+            self.names.slots,
             wanted,
             self.depth,
             0,
@@ -62,12 +62,12 @@ impl Configs {
 
     /// Reads the queues that change.
     fn read_queues(&mut self, wanted: u32) -> Result<(), AllocError> {
-        if wanted == self.now.queues {
+        if wanted == self.names.queues {
             return Ok(());
         }
         self.changed.clear();
         self.store.pairs.list_changed(
-            self.now.queues,
+            self.names.queues,
             wanted,
             self.depth,
             0,
@@ -83,19 +83,19 @@ impl Configs {
 
     /// Reads the outputs that change.
     fn read_outputs(&mut self, wanted: u32) -> Result<(), AllocError> {
-        if wanted == self.now.outputs {
+        if wanted == self.names.outputs {
             return Ok(());
         }
         self.changed.clear();
         self.store.pairs.list_changed(
-            self.now.outputs,
+            self.names.outputs,
             wanted,
             GROUPS,
             0,
             &mut self.changed,
         )?;
         for (group, name) in self.changed.as_slice() {
-            let was = self.store.pairs.leaf(self.now.outputs, GROUPS, *group);
+            let was = self.store.pairs.leaf(self.names.outputs, GROUPS, *group);
             let len = self.core.output(*group as u8).len();
             let (kept, bytes) = changed_output(self.alloc, &self.store, was, *name, len)?;
             self.revision.outputs.push((*group as u8, kept, bytes))?;
@@ -105,11 +105,11 @@ impl Configs {
 
     /// Puts the pages.
     fn put_pages(&mut self, wanted: &Names) -> Result<(), AllocError> {
-        if wanted.pages == self.now.pages && wanted.height == self.now.height {
+        if wanted.pages == self.names.pages && wanted.height == self.names.height {
             return Ok(());
         }
-        let height = wanted.height.max(self.now.height);
-        let was = raised(&mut self.store.pairs, &self.now, height)?;
+        let height = wanted.height.max(self.names.height);
+        let was = raised(&mut self.store.pairs, &self.names, height)?;
         let pages = raised(&mut self.store.pairs, wanted, height)?;
         self.changed.clear();
         self.store

@@ -1,5 +1,7 @@
 //! What the parts of configurations are kept in.
 
+ghost use Rattle.mm_config.specs.Naming.{IsKeptOnce};
+
 use crate::cells::Cells;
 use crate::lists::Lists;
 use crate::places::Places;
@@ -30,5 +32,16 @@ impl Store {
             cells: Cells::new(alloc),
             pages: Places::new(alloc),
         }
+    }
+
+    /// Says, for proofs, that each part has one name. The call does nothing.
+    pub(crate) fn apart(&self)
+        ensures { IsKeptOnce self.now }
+    {
+        self.pairs.apart();
+        self.outputs.apart();
+        self.lists.apart();
+        self.cells.apart();
+        self.pages.apart();
     }
 }

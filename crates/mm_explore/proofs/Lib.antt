@@ -32,4 +32,4 @@ pub mod Tallies
 pub mod AllFound
 pub mod Notes
 pub mod LeftOver
-pub mod Reads
+pub mod Readings

@@ -444,7 +444,7 @@ module _ (i : Image) (s : Search) (at k : ℕ) (w : IsWithin i s at k) (move : k
         schedule = same_schedule;
         moves = refl;
         limit = refl;
-        stays = subst (λ c. StaysBy c i u (slice_index_or s.moves.items k 0)) (ap (leads_back at) (sym met.child) ∙ sym e)
+        back = subst (λ c. StaysBy c i u (slice_index_or s.moves.items k 0)) (ap (leads_back at) (sym met.child) ∙ sym e)
             (stays_so i s.limit s.found at w.inside (listed i s.all s.limit s.found (turns_before i s.found at k) (turns_from i s.found at k) w.come.goes) met.looked
             (slice_index_or s.moves.items k 0) mid.found met.looks);
       }

@@ -137,7 +137,7 @@ pub record Makes (i : Image) (stays : Bool) (old new : Search) (at k : ℕ) : Ty
   pub schedule : schedule_at new at ≡ schedule_at old at
   pub moves : new.moves ≡ old.moves
   pub limit : new.limit ≡ old.limit
-  pub stays : StaysBy stays i (schedule_at old at) (slice_index_or old.moves.items k 0)
+  pub back : StaysBy stays i (schedule_at old at) (slice_index_or old.moves.items k 0)
 
 -- a search has noted the configuration at an index, all of whose moves it has made, if it is final
 pub record IsNotedIfFinal (i : Image) (old new : Search) (at : ℕ) : Type 0 where

@@ -2,7 +2,7 @@ use Rattle.std.proofs.Common.{◌≡◌, ◌++◌, ℕ, List, length, map, slice
 use Rattle.std.proofs.lemmas.{List.length-map, Option.{slice_get-map, slice_get-get_or}}
 use Rattle.std.specs.Prelude.{option_map}
 use Rattle.mm_model.specs.State.{output_of}
-use Rattle.mm_explore.{specs.Noting.bytes_form, proofs.Reads.{some_items, all_some}}
+use Rattle.mm_explore.{specs.Noting.bytes_form, proofs.Readings.{some_items, all_some}}
 use Rattle.mm_explore.proofs.ends.put_outputs.Goals as goal
 
 pub loop-group-preserved : goal.loop-group-preserved

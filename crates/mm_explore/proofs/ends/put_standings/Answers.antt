@@ -3,7 +3,7 @@ use Rattle.std.proofs.lemmas.{List.length-map, Option.slice_get-map}
 use Rattle.std.specs.Prelude.{option_map}
 use Rattle.mm_model.specs.{Fits.slots_of, Flags.flags, Slot.Slot}
 use Rattle.mm_explore.specs.{Noting.standings_of, Outcomes.standing_number, declared.explored.Standing.Standing}
-use Rattle.mm_explore.proofs.{HeldEnds.standings_long, Reads.{one_item, all_items, standing_read}}
+use Rattle.mm_explore.proofs.{HeldEnds.standings_long, Readings.{one_item, all_items, standing_read}}
 use Rattle.mm_explore.proofs.ends.put_standings.Goals as goal
 
 pub loop-at-preserved : goal.loop-at-preserved

@@ -4,7 +4,7 @@ use Rattle.std.specs.Prelude.{option_map}
 use Rattle.indexmap.proofs.ReorderLemmas.{slice_get-zip_some}
 use Rattle.mm_model.specs.State.{output_of}
 use Rattle.mm_thread.specs.Output.{Output}
-use Rattle.mm_explore.{specs.Finds.as_output, proofs.Reads.{one_item, all_items}}
+use Rattle.mm_explore.{specs.Finds.as_output, proofs.Readings.{one_item, all_items}}
 use Rattle.mm_explore.proofs.outcomes.put_outputs.Goals as goal
 
 pub loop-group-preserved : goal.loop-group-preserved

@@ -4,7 +4,7 @@ use Rattle.std.specs.Prelude.{option_map}
 use Rattle.indexmap.proofs.ReorderLemmas.{slice_get-zip_some}
 use Rattle.mm_model.specs.{Fits.slots_of, Flags.flags, Slot.Slot}
 use Rattle.mm_explore.specs.{Noting.standings_of, declared.explored.Standing.Standing}
-use Rattle.mm_explore.proofs.{HeldEnds.standings_long, Reads.{one_item, all_items, standing_read}}
+use Rattle.mm_explore.proofs.{HeldEnds.standings_long, Readings.{one_item, all_items, standing_read}}
 use Rattle.mm_explore.proofs.outcomes.put_slots.Goals as goal
 
 pub loop-at-preserved : goal.loop-at-preserved

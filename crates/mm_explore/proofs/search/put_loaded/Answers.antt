@@ -1,6 +1,6 @@
 use Rattle.std.proofs.Common.{arith}
 use Rattle.mm_model.specs.Fits.{slots_of}
-use Rattle.mm_explore.{specs.MoveLists.loaded_item, proofs.Reads.{some_items, all_some}}
+use Rattle.mm_explore.{specs.MoveLists.loaded_item, proofs.Readings.{some_items, all_some}}
 use Rattle.mm_explore.proofs.search.put_loaded.Goals as goal
 
 pub loop-at-preserved : goal.loop-at-preserved

@@ -22,7 +22,7 @@ loop-k-preserved c =
     let same = ap (λ (v : Vec ℕ Global). length v.items) l.invariant.moves in
     let move : l.k < length items = omega (arith, lt, end, same) in
     let stay = subst (AllStay (l.stay && c.in_ok-stays.stays) i (schedule_at l.self at)) (sym (take_one items l.k 0 move))
-    (stay_more i (schedule_at l.self at) (take l.k items) (slice_index_or items l.k 0) l.stay c.in_ok-stays.stays (move_inside i l.self at l.k l.invariant.within move) l.invariant.stay made.stays) in
+    (stay_more i (schedule_at l.self at) (take l.k items) (slice_index_or items l.k 0) l.stay c.in_ok-stays.stays (move_inside i l.self at l.k l.invariant.within move) l.invariant.stay made.back) in
     record {
       within = made.within;
       moves = made.moves ∙ l.invariant.moves;
