@@ -16,7 +16,7 @@ use Rattle.std.proofs.lemmas.{Bool.cases_eq, List.{length-map, length-replicate}
 
 -- 1. What stays.
 
-or_none : (old new : Store) → IsKeptStill old new → (o : Option (List Cell)) (name : ℕ) → IsOrNone (IsPageName old) o name → IsOrNone (IsPageName new) o name
+pub or_none : (old new : Store) → IsKeptStill old new → (o : Option (List Cell)) (name : ℕ) → IsOrNone (IsPageName old) o name → IsOrNone (IsPageName new) o name
 or_none old new still None name h = h
 or_none old new still (Some cells) name h = page_stays old new still cells name h
 
@@ -55,6 +55,12 @@ module _ (k new : Store) (h : HasMoreCells k new) where
 
   pub names_more : (n : Names) (q : ℕ) → IsTreeOfPages k n → page_name new n q ≡ page_name k n q
   names_more n q t = ap (λ (s : Store). page_name s n q) h.others ∙ leaf_stays k.pairs new.pairs h.pairs n.height n.pages t.inner (page_place k.pages q)
+
+pub memory_more : (k new : Store) → HasMoreCells k new → (m : Memory) (n : Names) → AreMemoryNames k m n → AreMemoryNames new m n
+memory_more k new more m n h = record {
+  tree = tree_more k new more n h.tree;
+  pages = λ q. subst (IsOrNone (IsPageName new) (page_at m q)) (sym (names_more k new more n q h.tree)) (or_none k new (still_more k new more) (page_at m q) (page_name k n q) (h.pages q));
+}
 
 -- 2. Another page.
 
@@ -192,7 +198,7 @@ zero_at (suc n) (suc at) = zero_at n at
 pub zero_cells : (k : Store) → AreCells k 9 0 zero_page
 zero_cells k =
     let all : leaves k.pairs 9 0 ≡ replicate 512 0 =
-    same_numbers (leaves k.pairs 9 0) (replicate 512 0) (length_leaves k.pairs 9 0 ∙ sym (length-replicate 512 0)) (λ at. none_at k.pairs 9 at ∙ sym (zero_at 512 at)) in
+    same_numbers (leaves k.pairs 9 0) (replicate 512 0) (length_leaves k.pairs 9 0 ∙ sym (let none : ℕ = 0 in length-replicate 512 none)) (λ at. none_at k.pairs 9 at ∙ sym (zero_at 512 at)) in
     record { inner = none_tree k.pairs 9; names = subst (AllZip (λ cell leaf. IsNameOf zero_cell k.cells leaf cell) zero_page) (sym all) (zero_leaves 512 k.cells) }
 
 -- 4. A page that came or went.

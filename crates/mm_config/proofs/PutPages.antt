@@ -6,10 +6,10 @@ use Rattle.std.specs.{Ordering.nat_cmp, List.AllByRecursion, FinMap.{find, is_so
 use Rattle.mm_word.specs.declared.word.Cell.{Cell}
 use Rattle.mm_model.specs.Memory.{Memory, page_at, is_mapped, can_map, IsPage, IsPaged}
 use Rattle.mm_mem.specs.Plain.{Plain}
-use Rattle.mm_pairs.{specs.{Named.IsNameOf, Trees.{changed, leaves}}, proofs.Names.length_leaves}
-use Rattle.mm_config.specs.declared.{store.Store.Store, put_memory.Changes.Changes}
-use Rattle.mm_config.specs.{Naming.{IsPageName, IsOrNone}, Places.page_place, Putting.{IsOnWay, HasPages, HasPut, CanPut, IsPutSoFar, old_pages, new_pages}}
-use Rattle.mm_config.proofs.{NamedOnce.{pages_tell, not_none}, PageLists.{fewer_by_one, find_later}, Placing.place_tells}
+use Rattle.mm_pairs.{specs.{Named.{HasGrown, IsNameOf}, Trees.{changed, leaves}}, proofs.Names.length_leaves}
+use Rattle.mm_config.specs.declared.{store.Store.Store, names.Names.Names, put_memory.Changes.Changes}
+use Rattle.mm_config.specs.{Naming.{AreMemoryNames, IsPageName, IsOrNone, leaf_at, page_name}, Noting.{HasMoreCells, IsSameTree}, Places.page_place, Putting.{IsOnWay, HasPages, HasPut, CanPut, IsPutSoFar, old_pages, new_pages}}
+use Rattle.mm_config.proofs.{NamedOnce.{pages_tell, not_none}, PageLists.{fewer_by_one, find_later}, Placing.place_tells, Noted.{or_none, still_more}, PageTrees.leaf_stays}
 use Rattle.mm_config.proofs.Walks.{change_is, change_at, begins, made, same_way, arrived}
 
 -- 1. Names of pages.
@@ -193,3 +193,19 @@ module _ (k : Store) (c : Changes) (old : Plain) (can : CanPut k old c) where
         (subst (IsOrNone (IsPageName k) (page_at new.memory q)) (same (page_place k.pages q)) (so.pages.pages q)) (has.pages q)) in
       let as_many : new.memory.frames ≡ m.frames = so.frames ∙ sym frames in
       λ j. record { pages = pages j; frames = as_many j }
+
+-- 5. From the names of a memory, with the tree of pages made deeper.
+
+pub raised_pages : (k k2 : Store) (mid : List (ℕ × ℕ)) (m : Memory) (n : Names) (height tree : ℕ) → AreMemoryNames k m n
+    → IsSameTree k.pairs n mid (record n { height = height; pages = tree }) → HasGrown mid k2.pairs → HasMoreCells k k2 → HasPages k2 m (leaves k2.pairs height tree)
+raised_pages k k2 mid m n height tree h raised grown more = record {
+  inside = λ p high. same p ∙ h.tree.inside p (subst (λ (l : List ℕ). length l ≤ p) pages_same high);
+  pages = λ q. subst (IsOrNone (IsPageName k2) (page_at m q)) (sym (same (page_place k2.pages q) ∙ ap (λ l. leaf_at k.pairs n.height n.pages (page_place l q)) pages_same))
+  (or_none k k2 (still_more k k2 more) (page_at m q) (page_name k n q) (h.pages q));
+}
+  where
+    pages_same : k2.pages ≡ k.pages
+    pages_same = ap (λ (s : Store). s.pages) more.others
+
+    same : (p : ℕ) → leaf_at k2.pairs height tree p ≡ leaf_at k.pairs n.height n.pages p
+    same p = leaf_stays mid k2.pairs grown height tree raised.inner p ∙ raised.leaves p

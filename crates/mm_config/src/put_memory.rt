@@ -27,19 +27,19 @@ pub(crate) struct Changes<'a> {
 pub(crate) fn put_memory(
     store: &mut Store,
     mem: &mut PlainMem,
-    names: (&Names, &Names),
+    was: &Names,
+    wanted: &Names,
     pages: &mut Vec<(u64, u32)>,
     cells: &mut Vec<(u64, u32)>,
 ) -> Result<(), AllocError>
-    requires was { AreMemoryNames store.old mem.old.memory names.0.now }
+    requires was { AreMemoryNames store.old mem.old.memory was.now }
     requires wanted { (m : MemoryValue) × IsPaged m × (m.frames ≡ mem.old.memory.frames)
-        × AreMemoryNames store.old m names.1.now }
+        × AreMemoryNames store.old m wanted.now }
     ensures memory { OnOk result ((m : MemoryValue) → IsPaged m → m.frames ≡ mem.old.memory.frames
-        → AreMemoryNames store.old m names.1.now → mem.new.memory ≡ m) }
+        → AreMemoryNames store.old m wanted.now → mem.new.memory ≡ m) }
     ensures uses { OnOk result (mem.new.uses ≡ mem.old.uses) }
     ensures more { OnOk result (HasMoreCells store.old store.new) }
 {
-    let (was, wanted) = names;
     store.pages.apart();
     let height = was.height.max(wanted.height);
     let before = raised(&mut store.pairs, was, height)?;
@@ -86,10 +86,8 @@ fn put_pages(
         let _count = mem.pages();
         if *page != 0 {
             let number = store.pages.number(*place);
-            let before = store
-                .pairs
-                .leaf(changes.before, changes.height, *place);
-            put_page(store, mem, number, (before, *page), cells)?;
+            let before = store.pairs.leaf(changes.before, changes.height, *place);
+            put_page(store, mem, number, before, *page, cells)?;
         }
     }
     Ok(())
@@ -112,17 +110,17 @@ fn put_page(
     store: &Store,
     mem: &mut PlainMem,
     number: u64,
-    names: (u32, u32),
+    before: u32,
+    page: u32,
     cells: &mut Vec<(u64, u32)>,
 ) -> Result<(), AllocError>
     requires number { number < 2 ^ 42 }
-    requires known { IsOrNone (IsPageName store.now) (page_at mem.old.memory number) names.0 }
-    requires room { names.0 ≡ 0 → can_map mem.old.memory number ≡ true }
-    requires wanted { (cells : List CellValue) × IsPageName store.now cells names.1 }
-    ensures { OnOk result ((cells : List CellValue) → IsPageName store.now cells names.1
+    requires known { IsOrNone (IsPageName store.now) (page_at mem.old.memory number) before }
+    requires room { before ≡ 0 → can_map mem.old.memory number ≡ true }
+    requires wanted { (cells : List CellValue) × IsPageName store.now cells page }
+    ensures { OnOk result ((cells : List CellValue) → IsPageName store.now cells page
         → HasPut mem.old mem.new number (Some cells)) }
 {
-    let (before, page) = names;
     map_unnamed(mem, number, before);
     let (_, was) = store.pairs.parts(before);
     let (_, wanted) = store.pairs.parts(page);
