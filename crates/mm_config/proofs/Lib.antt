@@ -8,6 +8,7 @@ pub mod States
 pub mod Zips
 pub mod Keys
 pub mod Staying
+pub mod Standing
 pub mod Revising
 pub mod Turned
 pub mod CellForms

@@ -32,12 +32,16 @@ pub record HasPutCore (core : Core) (old new : code.Configs) : Type 0 where
   pub room : map identity_of new.slots.items ≡ map identity_of old.slots.items
   pub others : new ≡ record old { core = new.core; slots = new.slots; revision = new.revision; changed = new.changed }
 
+-- what is not room for reading is as it was
+abbrev pub KeepsAll : (old new : code.Configs) → Type 0
+KeepsAll old new = new ≡ record old { slots = new.slots; revision = new.revision; changed = new.changed }
+
 -- the slots of a core at the indices that are set in a mask are read; those at the others are the same
 pub record HasReadSlots (core : Core) (old new : code.Configs) (mask : ℕ) : Type 0 where
   pub slots : (k : ℕ) → k < length old.base.items
       → (if slice_index_or (flags (length old.base.items) mask) k false then slice_index_or new.slots.items k no_slot else slot_in old.core k) ≡ slot_in core k
   pub room : map identity_of new.slots.items ≡ map identity_of old.slots.items
-  pub others : new ≡ record old { slots = new.slots; changed = new.changed }
+  pub others : KeepsAll old new
 
 -- an index is one of those listed
 abbrev pub IsListed : {A : Type 0} → (A → ℕ) → ℕ → List A → Type 0
@@ -48,8 +52,8 @@ IsListed of k (x ∷ xs) = (of x ≡ k) ⊎ IsListed of k xs
 pub record HasReadQueues (core : Core) (old new : code.Configs) : Type 0 where
   pub queues : AllByRecursion (λ (x : ℕ × List Event). (x.0 < length old.core.rows) × (x.1 ≡ queue_in core x.0)) (queues_in new.revision)
   pub rest : (k : ℕ) → k < length old.core.rows → IsListed (λ (x : ℕ × List Event). x.0) k (queues_in new.revision) ⊎ (queue_in old.core k ≡ queue_in core k)
-  pub outputs : new.revision.outputs ≡ old.revision.outputs
-  pub others : new ≡ record old { revision = new.revision; changed = new.changed }
+  pub room : new.slots ≡ old.slots
+  pub others : KeepsAll old new
 
 -- bytes that stay and those after them are an output of the core that is wanted
 pub record Extends (core wanted : Core) (x : Extension) : Type 0 where
@@ -62,4 +66,5 @@ pub record HasReadOutputs (core : Core) (old new : code.Configs) : Type 0 where
   pub outputs : AllByRecursion (Extends old.core core) (outputs_in new.revision)
   pub rest : (g : ℕ) → g < length old.core.outputs → IsListed (λ (x : Extension). x.group) g (outputs_in new.revision) ⊎ (output_of old.core g ≡ output_of core g)
   pub queues : new.revision.queues ≡ old.revision.queues
-  pub others : new ≡ record old { revision = new.revision; changed = new.changed }
+  pub room : new.slots ≡ old.slots
+  pub others : KeepsAll old new
