@@ -9,6 +9,8 @@ pub mod Zips
 pub mod Keys
 pub mod Staying
 pub mod Standing
+pub mod Leaves
+pub mod TurnNames
 pub mod Revising
 pub mod Turned
 pub mod CellForms
