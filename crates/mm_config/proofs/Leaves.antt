@@ -7,14 +7,15 @@ use Rattle.mm_config.specs.{Naming.{IsOrNone, AreLeaves, leaf_at}, Turning.{Note
 use Rattle.mm_config.proofs.Staying.{slot_stays, queue_stays}
 use Rattle.mm_thread.specs.SlotIndices.{no_slot, slot_in, queue_in}
 
--- 1. Leaves each of which is named anew, or is the same as before, of what is the same as before.
+-- 1. Leaves each of which is named anew, or is the same as before and names what is there now.
 
-module _ {A : Type 0} (Is Now : A → ℕ → Type 0) (stable : (x : A) (name : ℕ) → Is x name → Now x name) (xs ys : List A) (d : A) (old new : List (ℕ × ℕ)) (depth was tree : ℕ)
+module _ {A : Type 0} (Is Now : A → ℕ → Type 0) (xs ys : List A) (d : A) (old new : List (ℕ × ℕ)) (depth was tree : ℕ)
     (of : AreLeaves Is xs old depth was) (long : length ys ≡ length xs) (inner : IsTree new depth tree) where
   abbrev pub IsSettled : ℕ → Type 0
   IsSettled k =
       ((k < length xs) × Now (slice_index_or ys k d) (leaf_at new depth tree k))
-      ⊎ ((leaf_at new depth tree k ≡ leaf_at old depth was k) × (k < length xs → slice_index_or ys k d ≡ slice_index_or xs k d))
+      ⊎ ((leaf_at new depth tree k ≡ leaf_at old depth was k)
+          × (k < length xs → (name : ℕ) → Is (slice_index_or xs k d) name → Now (slice_index_or ys k d) name))
 
   settled_at : (k : ℕ) → (k < length xs) ⊎ (length xs ≤ k) → IsSettled k → IsOrNone Now (slice_get ys k) (leaf_at new depth tree k)
   settled_at k (inl lt) (inl h) =
@@ -23,8 +24,7 @@ module _ {A : Type 0} (Is Now : A → ℕ → Type 0) (stable : (x : A) (name : 
       let there : IsOrNone Is (Some (slice_index_or xs k d)) (leaf_at old depth was k) =
       subst (λ (o : Option A). IsOrNone Is o (leaf_at old depth was k)) (slice_get-get_or xs k d lt) (of.each k) in
       subst (λ (o : Option A). IsOrNone Now o (leaf_at new depth tree k)) (sym (slice_get-get_or ys k d (omega (arith, long, lt))))
-      (subst (λ x. Now x (leaf_at new depth tree k)) (sym (h.1 lt))
-      (subst (Now (slice_index_or xs k d)) (sym h.0) (stable (slice_index_or xs k d) (leaf_at old depth was k) there)))
+      (subst (Now (slice_index_or ys k d)) (sym h.0) (h.1 lt (leaf_at old depth was k) there))
   settled_at k (inr high) (inl h) = let lt = h.0 in absurd (omega (arith, high, lt))
   settled_at k (inr high) (inr h) =
       subst (λ (o : Option A). IsOrNone Now o (leaf_at new depth tree k)) (sym (slice_get_past ys k (omega (arith, long, high))))

@@ -11,6 +11,7 @@ pub mod Staying
 pub mod Standing
 pub mod Leaves
 pub mod TurnNames
+pub mod NotedTurn
 pub mod Revising
 pub mod Turned
 pub mod CellForms

@@ -1,13 +1,14 @@
 -- What is noted of a turn.
-use Rattle.std.specs.Prelude.{◌≡◌, ◌⊎◌, ◌↔◌, ℕ, ◌<◌, ◌≤◌, ◌^◌, ◌%◌, List, length, slice_index_or, Some, IsSomeAnd}
-use Rattle.std.specs.{Prelude.{IsBitSet, IfSome, IfNone}, Option.option_copied}
+use Rattle.std.specs.Prelude.{◌≡◌, ◌⊎◌, ◌↔◌, ℕ, ◌<◌, ◌≤◌, ◌^◌, ◌%◌, List, [], ◌∷◌, ◌++◌, length, slice_index_or, Some, IsSomeAnd}
+use Rattle.std.specs.Prelude.{IsBitSet, IfSome}
 use Rattle.mm_model.specs.declared.{slot.SlotState.TheVariants.Running, step.Step.Step}
 use Rattle.mm_model.specs.{Image.Image, Slot.Slot, State.{Core, slot_at, output_of}, Run.turn_of}
 use Rattle.mm_thread.specs.SlotIndices.{no_slot, slot_in, queue_in}
 use Rattle.mm_pairs.specs.Trees.{IsTree}
 use Rattle.mm_config.specs.declared.configs.Configs as code
 use Rattle.mm_config.specs.declared.note.Before.{Before}
-use Rattle.mm_config.specs.{Machines.Configs, Naming.{IsSlotName, IsQueueName, leaf_at}, Noting.IsKeptStill, Keeping.Stands}
+use Rattle.mm_config.specs.{Machines.Configs, Naming.{IsSlotName, IsQueueName, IsOutputName, leaf_at, AreMemoryNames}}
+use Rattle.mm_config.specs.{Noting.{IsKeptStill, HasOtherPages, mapped_pages}, Keeping.Stands}
 
 -- 1. Before a turn, and after it.
 
@@ -73,3 +74,32 @@ pub record NotesQueues (IsOne : ℕ → Type 0) (old new : code.Configs) : Type 
   pub still : IsKeptStill old.store new.store
   pub leaves : NotesLeaves (IsQueueNamed new) IsOne old.store.pairs old.depth old.names.queues new.store.pairs new.names.queues
   pub others : new ≡ record old { store = new.store; names = record old.names { queues = new.names.queues }; numbers = new.numbers }
+
+-- 5. Outputs.
+
+-- the output of the core before was of this name and length, and now it is the same, or one byte more
+pub record WasOutput (g before : ℕ) (c : code.Configs) : Type 0 where
+  pub bytes : List ℕ
+  pub named : IsOutputName c.store bytes (leaf_at c.store.pairs 6 c.names.outputs g)
+  pub inner : IsTree c.store.pairs 6 c.names.outputs
+  pub long : before ≡ length bytes
+  pub small : g < 64
+  pub now : (output_of c.core g ≡ bytes) ⊎ ((byte : ℕ) × (byte < 256) × (output_of c.core g ≡ bytes ++ byte ∷ []))
+
+abbrev pub IsOutputNamed : code.Configs → (at name : ℕ) → Type 0
+IsOutputNamed c at name = IsOutputName c.store (output_of c.core at) name
+
+pub record NotesOutputs (IsOne : ℕ → Type 0) (old new : code.Configs) : Type 0 where
+  pub still : IsKeptStill old.store new.store
+  pub leaves : NotesLeaves (IsOutputNamed new) IsOne old.store.pairs 6 old.names.outputs new.store.pairs new.names.outputs
+  pub others : new ≡ record old { store = new.store; names = record old.names { outputs = new.names.outputs } }
+
+-- 6. Memory.
+
+-- the names of the memory are noted
+pub record NotesMemory (old new : code.Configs) : Type 0 where
+  pub still : IsKeptStill old.store new.store
+  pub names : AreMemoryNames new.store new.mem.memory new.names
+  pub pages : HasOtherPages old.names new.names
+  pub mapped : new.mapped.items ≡ mapped_pages new.mem.memory
+  pub others : new ≡ record old { store = new.store; names = new.names; mapped = new.mapped }

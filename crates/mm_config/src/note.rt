@@ -1,11 +1,12 @@
 //! Noting what a turn may have changed: its slot, the slots that this handles and that did not run, the queue of its handler
 //! and its own, the output of its group, a page, and the word that it accessed.
 
-ghost use Rattle.std.specs.Prelude.{◌≡◌, ◌<◌, ◌^◌, OnOk, length};
+ghost use Rattle.std.specs.Prelude.{◌≡◌, ◌⊎◌, ◌<◌, OnOk, length};
 ghost use Rattle.mm_model.specs.Run.{after};
 ghost use Rattle.mm_config.specs.Configurations.{configuration};
 ghost use Rattle.mm_config.specs.Keeping.{Stands};
 ghost use Rattle.mm_config.specs.Turning.{HasTurned, IsBefore, HasTrees, NotesSlots, IsServedBy, NotesQueues};
+ghost use Rattle.mm_config.specs.Turning.{WasOutput, NotesOutputs};
 
 use crate::configs::Configs;
 use crate::events::put_events;
@@ -77,8 +78,7 @@ impl Configs {
             return Ok(());
         };
         self.core.uncount(at);
-        self.note_slot(at)?;
-        self.note_served(step.slot, before.running)?;
+        self.note_slots(at, step.slot, before.running)?;
         let was = self.names;
         self.note_queues(at, step)?;
         self.note_output(self.base[at].group, before.put_out)?;
@@ -103,6 +103,16 @@ impl Configs {
                 .pairs
                 .with_leaf(self.names.slots, self.depth, at as u64, name)?;
         Ok(())
+    }
+
+    /// Notes the slot at an index, of this number, and the slots that it handles, but for those that ran before the turn.
+    fn note_slots(&mut self, at: usize, number: u8, running: u64) -> Result<(), AllocError>
+        requires trees { HasTrees self.old }
+        requires within { at < length self.old.base.items }
+        ensures { OnOk result (NotesSlots (λ k. (k ≡ at) ⊎ IsServedBy self.old.base.items number running k) self.old self.new) }
+    {
+        self.note_slot(at)?;
+        self.note_served(number, running)
     }
 
     /// Notes the slots that a slot handles, but for those that ran before the turn.
@@ -158,7 +168,10 @@ impl Configs {
     }
 
     /// Notes the last byte of the output of a group, if there were fewer before.
-    fn note_output(&mut self, group: u8, before: usize) -> Result<(), AllocError> {
+    fn note_output(&mut self, group: u8, before: usize) -> Result<(), AllocError>
+        requires { WasOutput group before self.old }
+        ensures { OnOk result (NotesOutputs (λ g. g ≡ group) self.old self.new) }
+    {
         let output = self.core.output(group);
         if output.len() == before {
             return Ok(());
