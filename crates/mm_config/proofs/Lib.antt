@@ -12,6 +12,7 @@ pub mod Standing
 pub mod Leaves
 pub mod TurnNames
 pub mod NotedTurn
+pub mod NextState
 pub mod Revising
 pub mod Turned
 pub mod CellForms

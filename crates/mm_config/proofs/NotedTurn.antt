@@ -1,5 +1,5 @@
 -- A machine that has made a turn, by what was noted.
-use Rattle.std.proofs.Common.{◌≡◌, ◌⊎◌, inl, inr, ℕ, zero, suc, ◌-◌, ◌<◌, ◌≤◌, ◌%◌, ◌&&◌, nat_le, Bool, true, false, List, [], ◌∷◌, map, length, slice_index_or, Option, Some, None, if◌then◌else◌, refl, sym, ap, ◌∙◌, subst, arith}
+use Rattle.std.proofs.Common.{◌≡◌, ◌⊎◌, inl, inr, ℕ, zero, suc, ◌-◌, ◌<◌, ◌≤◌, ◌%◌, ◌&&◌, nat_le, Bool, true, false, List, [], ◌∷◌, map, length, slice_index_or, Option, Some, None, if◌then◌else◌, refl, sym, ap, ◌∙◌, subst, arith, leb-true}
 use Rattle.std.proofs.lemmas.List.{length-map, get_or-map}
 use Rattle.std.specs.{Prelude.zip, List.AllByRecursion}
 use Rattle.mm_model.specs.declared.slot.Pending.{Pending}
@@ -15,6 +15,10 @@ use Rattle.mm_config.specs.{Naming.{IsSlotName, IsQueueName, AreLeaves, leaf_at}
 use Rattle.mm_config.proofs.{States.after_state_of, Standing.config_core, Leaves.{settled, IsSettled}, Staying.{slot_stays, queue_stays}}
 
 -- 1. The slot of a step.
+
+second : (a b : Bool) → (a && b) ≡ true → b ≡ true
+second true b e = e
+second false b e = cc
 
 module _ (core : Core) (m : Memory) (n : ℕ) (byte : n < 256) where
   started_slot : (x : Slot) → (started core m x).step.slot ≡ x.number
@@ -38,8 +42,9 @@ module _ (core : Core) (m : Memory) (n : ℕ) (byte : n < 256) where
       port true e none (Some x) is at =
           let own = arrived_slot x x.pending in
           let number = slot_at-number core (n - 128) x is in
+          let high = leb-true 128 n (second core.split (nat_le 128 n) e) in
           let same = slot_at-number core (arrives core m x x.pending).step.slot s at in
-          ?
+          omega (arith, own, number, high, same, small, byte)
 
       run : (b : Bool) (x : Slot) → slot_at core n ≡ Some x → slot_at core (if b then started core m x else idle core m n).step.slot ≡ Some s
           → (if b then started core m x else idle core m n).step.slot ≡ n % 128
