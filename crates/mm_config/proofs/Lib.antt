@@ -13,6 +13,7 @@ pub mod Leaves
 pub mod TurnNames
 pub mod NotedTurn
 pub mod NextState
+pub mod OwnCells
 pub mod Revising
 pub mod Turned
 pub mod CellForms

@@ -1,8 +1,10 @@
 -- What is noted of a turn.
-use Rattle.std.specs.Prelude.{◌≡◌, ◌⊎◌, ◌↔◌, ℕ, ◌<◌, ◌≤◌, ◌^◌, ◌%◌, List, [], ◌∷◌, ◌++◌, length, slice_index_or, Some, IsSomeAnd}
+use Rattle.std.specs.Prelude.{◌≡◌, ◌⊎◌, ◌↔◌, ℕ, ◌<◌, ◌≤◌, ◌^◌, ◌%◌, List, [], ◌∷◌, ◌++◌, length, slice_index_or, Option, Some, IsSomeAnd}
 use Rattle.std.specs.Prelude.{IsBitSet, IfSome}
 use Rattle.mm_model.specs.declared.{slot.SlotState.TheVariants.Running, step.Step.Step}
-use Rattle.mm_model.specs.{Image.Image, Slot.Slot, State.{Core, slot_at, output_of}, Run.turn_of}
+use Rattle.mm_word.specs.Access.{AccessValue}
+use Rattle.mm_model.specs.{Image.Image, Memory.{Memory, IsPaged}, Slot.Slot, State.{Core, slot_at, output_of}, Run.turn_of}
+use Rattle.mm_laws.specs.Frames.{MemoryLeft}
 use Rattle.mm_thread.specs.SlotIndices.{no_slot, slot_in, queue_in}
 use Rattle.mm_pairs.specs.Trees.{IsTree}
 use Rattle.mm_config.specs.declared.configs.Configs as code
@@ -95,6 +97,15 @@ pub record NotesOutputs (IsOne : ℕ → Type 0) (old new : code.Configs) : Type
   pub others : new ≡ record old { store = new.store; names = record old.names { outputs = new.names.outputs } }
 
 -- 6. Memory.
+
+-- the names are those of the memory before a turn
+pub record WasMemory (touched : Option AccessValue) (pages : ℕ) (c : code.Configs) : Type 0 where
+  pub memory : Memory
+  pub left : MemoryLeft memory c.mem.memory touched
+  pub whole : IsPaged memory
+  pub names : AreMemoryNames c.store memory c.names
+  pub mapped : c.mapped.items ≡ mapped_pages memory
+  pub count : pages ≡ length memory.pages
 
 -- the names of the memory are noted
 pub record NotesMemory (old new : code.Configs) : Type 0 where

@@ -6,7 +6,7 @@ ghost use Rattle.mm_model.specs.Run.{after};
 ghost use Rattle.mm_config.specs.Configurations.{configuration};
 ghost use Rattle.mm_config.specs.Keeping.{Stands};
 ghost use Rattle.mm_config.specs.Turning.{HasTurned, IsBefore, HasTrees, NotesSlots, IsServedBy, NotesQueues};
-ghost use Rattle.mm_config.specs.Turning.{WasOutput, NotesOutputs};
+ghost use Rattle.mm_config.specs.Turning.{WasOutput, NotesOutputs, WasMemory, NotesMemory};
 
 use crate::configs::Configs;
 use crate::events::put_events;
@@ -188,7 +188,10 @@ impl Configs {
     }
 
     /// Notes the page that a turn mapped or unmapped, and the word that it may have written.
-    fn note_memory(&mut self, step: &Step, pages: u32) -> Result<(), AllocError> {
+    fn note_memory(&mut self, step: &Step, pages: u32) -> Result<(), AllocError>
+        requires { WasMemory step.now.touched pages self.old }
+        ensures { OnOk result (NotesMemory self.old self.new) }
+    {
         if self.mem.pages() != pages {
             note_page(&mut self.store, &mut self.names, &mut self.mapped, &self.mem)?;
         }
