@@ -30,6 +30,12 @@ word_page number at lt = omega (arith, lt)
 pub word_place : (number at : ℕ) → at < 512 → place_of (number * 4096 + 8 * at) ≡ at
 word_place number at lt = omega (arith, lt)
 
+pub up_to : (j n : ℕ) → j < n + 1 → (j < n) ⊎ (j ≡ n)
+up_to j n lt = elim (cases_eq j n) [
+  | inl same ↦ inr same
+  | inr other ↦ inl (omega (arith, lt, other))
+]
+
 module _ (k : Store) (was wanted number : ℕ) (old : Plain) where
   abbrev before : List ℕ
   before = leaves k.pairs 9 was
@@ -65,8 +71,7 @@ module _ (k : Store) (was wanted number : ℕ) (old : Plain) where
     cells = slice_set so.cells e.0 cell;
     names = slice_set so.names e.0 e.1;
     way = made before after long (λ index name. index < n) (λ index name. index < n + 1) so.names so.way n e got
-        (λ j x lt. elim (cases_eq j n) [ inl same ↦ inr same | inr other ↦ inl (omega (arith, lt, other)) ])
-        (λ j x h. elim h [ inl lt ↦ omega (arith, lt) | inr same ↦ omega (arith, same) ]);
+        (λ j f g. (λ lt. up_to j n lt, λ h. elim h [ inl lt ↦ omega (arith, lt) | inr same ↦ omega (arith, same) ]));
     are = zip_set (λ cell leaf. IsNameOf zero_cell k.cells leaf cell) e.0 cell e.1 (record { within = within; is = sym is }) so.cells so.names so.are;
     put = record {
       is = ap (λ (m : Memory). page_at m number) memory ∙ here;

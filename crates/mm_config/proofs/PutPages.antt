@@ -112,10 +112,10 @@ module _ (k : Store) (c : Changes) (old : Plain) (can : CanPut k old c) where
 
       -- one change more
       pub one_more_put : (next : Plain) (o : Option (List Cell)) → HasPut new next (slice_index_or k.pages e.0 0) o → IsOrNone (IsPageName k) o e.1
-          → ((j x : ℕ) → E j x → D j x ⊎ (j ≡ n)) → ((j x : ℕ) → D j x ⊎ (j ≡ n) → E j x) → IsPutSoFar k c E old next
-      one_more_put next o put named to from = record {
+          → ((j : ℕ) (f : ℕ × ℕ) → slice_get c.list.now j ≡ Some f → (E j f.1 → D j f.1 ⊎ (j ≡ n)) × (D j f.1 ⊎ (j ≡ n) → E j f.1)) → IsPutSoFar k c E old next
+      one_more_put next o put named with_it = record {
         now = slice_set so.now e.0 e.1;
-        way = made was names long D E so.now so.way n e listed to from;
+        way = made was names long D E so.now so.way n e listed (λ j f g. with_it j f (in_list j f g));
         pages = record {
           inside = λ p high. get_or-set_other so.now e.0 p e.1 0 (λ same. let low = page.within in omega (arith, same, high, low)) ∙ so.pages.inside p high;
           pages = λ q. elim (cases_eq (page_place k.pages q) e.0) [
