@@ -11,7 +11,7 @@ use Rattle.mm_pairs.{specs.{Named.{named, IsNameOf}, Trees.{pair_of, changed, le
 use Rattle.mm_config.specs.declared.{store.Store.Store}
 use Rattle.mm_config.specs.{Naming.{AreCells, IsPageName, IsOrNone}, Putting.{IsOnWay, HasPut, AreCellsSoFar}}
 use Rattle.mm_config.proofs.{NamedOnce.{cells_tell, same_numbers}, PageCells.zip_set, PutPages.some_name, Noted.zero_cells}
-use Rattle.mm_config.proofs.Walks.{IsChange, change_is, begins, made, arrived}
+use Rattle.mm_config.proofs.Walks.{change_is, begins, made, arrived, up_to}
 
 abbrev Are : Store → List Cell → List ℕ → Type 0
 Are k cells names = AllZip (λ cell leaf. IsNameOf zero_cell k.cells leaf cell) cells names
@@ -29,12 +29,6 @@ word_page number at lt = omega (arith, lt)
 
 pub word_place : (number at : ℕ) → at < 512 → place_of (number * 4096 + 8 * at) ≡ at
 word_place number at lt = omega (arith, lt)
-
-pub up_to : (j n : ℕ) → j < n + 1 → (j < n) ⊎ (j ≡ n)
-up_to j n lt = elim (cases_eq j n) [
-  | inl same ↦ inr same
-  | inr other ↦ inl (omega (arith, lt, other))
-]
 
 module _ (k : Store) (was wanted number : ℕ) (old : Plain) where
   abbrev before : List ℕ

@@ -87,6 +87,12 @@ change_at at (w ∷ was) (n ∷ names) long (suc place) lt other =
 
 -- 2. On the way.
 
+pub up_to : (j n : ℕ) → j < n + 1 → (j < n) ⊎ (j ≡ n)
+up_to j n lt = elim (cases_eq j n) [
+  | inl same ↦ inr same
+  | inr other ↦ inl (omega (arith, lt, other))
+]
+
 pub begins : (was names : List ℕ) (D : ℕ → ℕ → Type 0) → ((j x : ℕ) → D j x → ⊥) → IsOnWay was names D was
 begins was names D none = record { long = refl; either = λ p. inl refl; done = λ j e got d. absurd (none j e.1 d); rest = λ j e got d. refl }
 
