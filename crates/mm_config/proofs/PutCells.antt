@@ -11,7 +11,7 @@ use Rattle.mm_pairs.{specs.{Named.{named, IsNameOf}, Trees.{pair_of, changed, le
 use Rattle.mm_config.specs.declared.{store.Store.Store}
 use Rattle.mm_config.specs.{Naming.{AreCells, IsPageName, IsOrNone}, Putting.{IsOnWay, HasPut, AreCellsSoFar}}
 use Rattle.mm_config.proofs.{NamedOnce.{cells_tell, same_numbers}, PageCells.zip_set, PutPages.some_name, Noted.zero_cells}
-use Rattle.mm_config.proofs.Walks.{IsChange, change_is, begins, made, arrived}
+use Rattle.mm_config.proofs.Walks.{change_is, begins, made, arrived, up_to}
 
 abbrev Are : Store → List Cell → List ℕ → Type 0
 Are k cells names = AllZip (λ cell leaf. IsNameOf zero_cell k.cells leaf cell) cells names
@@ -65,8 +65,7 @@ module _ (k : Store) (was wanted number : ℕ) (old : Plain) where
     cells = slice_set so.cells e.0 cell;
     names = slice_set so.names e.0 e.1;
     way = made before after long (λ index name. index < n) (λ index name. index < n + 1) so.names so.way n e got
-        (λ j x lt. elim (cases_eq j n) [ inl same ↦ inr same | inr other ↦ inl (omega (arith, lt, other)) ])
-        (λ j x h. elim h [ inl lt ↦ omega (arith, lt) | inr same ↦ omega (arith, same) ]);
+        (λ j f g. (λ lt. up_to j n lt, λ h. elim h [ inl lt ↦ omega (arith, lt) | inr same ↦ omega (arith, same) ]));
     are = zip_set (λ cell leaf. IsNameOf zero_cell k.cells leaf cell) e.0 cell e.1 (record { within = within; is = sym is }) so.cells so.names so.are;
     put = record {
       is = ap (λ (m : Memory). page_at m number) memory ∙ here;

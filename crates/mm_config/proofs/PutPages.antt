@@ -1,7 +1,7 @@
 -- Pages that are put, change by change.
 use Rattle.std.proofs.Common.{◌≡◌, ◌≢◌, ◌⊎◌, inl, inr, ℕ, zero, suc, ◌+◌, ◌<◌, ◌≤◌, ◌^◌, Bool, true, false, not, ◌&&◌, nat_lt, List, [], ◌∷◌, length, slice_get, slice_index_or, slice_set, Option, Some, None, is_some}
 use Rattle.std.proofs.Common.{refl, sym, ap, ◌∙◌, subst, arith, T}
-use Rattle.std.proofs.lemmas.{Bool.{cases_eq, cases_lt, lt-ltb}, Cmp.nat_cmp_total, List.{get_or-set_same, get_or-set_other, get_or_past}}
+use Rattle.std.proofs.lemmas.{Bool.{cases_eq, cases_lt, lt-ltb}, Cmp.nat_cmp_total, List.{get_or-set_same, get_or-set_other, get_or_past}, Option.slice_get_within}
 use Rattle.std.specs.{Ordering.nat_cmp, List.AllByRecursion, FinMap.{find, is_sorted, nat_cmp-IsAntisymmetric}, FinMap.Entries.same_entries}
 use Rattle.mm_word.specs.declared.word.Cell.{Cell}
 use Rattle.mm_model.specs.Memory.{Memory, page_at, is_mapped, can_map, IsPage, IsPaged}
@@ -10,7 +10,7 @@ use Rattle.mm_pairs.{specs.{Named.{HasGrown, IsNameOf}, Trees.{changed, leaves}}
 use Rattle.mm_config.specs.declared.{store.Store.Store, names.Names.Names, put_memory.Changes.Changes}
 use Rattle.mm_config.specs.{Naming.{AreMemoryNames, IsPageName, IsOrNone, leaf_at, page_name}, Noting.{HasMoreCells, IsSameTree}, Places.page_place, Putting.{IsOnWay, HasPages, HasPut, CanPut, IsPutSoFar, old_pages, new_pages}}
 use Rattle.mm_config.proofs.{NamedOnce.{pages_tell, not_none}, PageLists.{fewer_by_one, find_later}, Placing.place_tells, Noted.{or_none, still_more}, PageTrees.leaf_stays}
-use Rattle.mm_config.proofs.Walks.{change_is, change_at, begins, made, same_way, arrived}
+use Rattle.mm_config.proofs.Walks.{change_is, change_at, begins, made, same_way, arrived, up_to}
 
 -- 1. Names of pages.
 
@@ -112,10 +112,10 @@ module _ (k : Store) (c : Changes) (old : Plain) (can : CanPut k old c) where
 
       -- one change more
       pub one_more_put : (next : Plain) (o : Option (List Cell)) → HasPut new next (slice_index_or k.pages e.0 0) o → IsOrNone (IsPageName k) o e.1
-          → ((j x : ℕ) → E j x → D j x ⊎ (j ≡ n)) → ((j x : ℕ) → D j x ⊎ (j ≡ n) → E j x) → IsPutSoFar k c E old next
-      one_more_put next o put named to from = record {
+          → ((j : ℕ) (f : ℕ × ℕ) → slice_get c.list.now j ≡ Some f → (E j f.1 → D j f.1 ⊎ (j ≡ n)) × (D j f.1 ⊎ (j ≡ n) → E j f.1)) → IsPutSoFar k c E old next
+      one_more_put next o put named with_it = record {
         now = slice_set so.now e.0 e.1;
-        way = made was names long D E so.now so.way n e listed to from;
+        way = made was names long D E so.now so.way n e listed (λ j f g. with_it j f (in_list j f g));
         pages = record {
           inside = λ p high. get_or-set_other so.now e.0 p e.1 0 (λ same. let low = page.within in omega (arith, same, high, low)) ∙ so.pages.inside p high;
           pages = λ q. elim (cases_eq (page_place k.pages q) e.0) [
@@ -142,7 +142,79 @@ module _ (k : Store) (c : Changes) (old : Plain) (can : CanPut k old c) where
           here : slice_index_or (slice_set so.now e.0 e.1) e.0 0 ≡ e.1
           here = let low = page.inside in let l = so.way.long in let m = long in get_or-set_same so.now e.0 e.1 0 (omega (arith, low, l, m))
 
-  -- 3. There are frames.
+  -- 3. The pages that are unmapped, and then the others.
+
+  alike : (j n : ℕ) (f e : ℕ × ℕ) → slice_get c.list.now j ≡ Some f → slice_get c.list.now n ≡ Some e → j ≡ n → f ≡ e
+  alike j n f e g got same = let two : slice_get c.list.now n ≡ Some f = ap (slice_get c.list.now) (sym same) ∙ g in cc
+
+  abbrev pub Unmapped : ℕ → ℕ → ℕ → Type 0
+  Unmapped n index name = (index < n) × (name ≡ 0)
+
+  abbrev pub Put : ℕ → ℕ → ℕ → Type 0
+  Put n index name = (name ≡ 0) ⊎ (index < n)
+
+  pub unmap_begins : IsPutSoFar k c (Unmapped 0) old old
+  unmap_begins = same_so (λ index name. ⊥) (Unmapped 0) old none_yet (λ j f g. (λ d. let lt = d.0 in omega (arith, lt), λ d. absurd d))
+
+  module _ (n : ℕ) (new : Plain) (e : ℕ × ℕ) (got : slice_get c.list.now n ≡ Some e) where
+    pub unmap_skips : IsPutSoFar k c (Unmapped n) old new → e.1 ≢ 0 → IsPutSoFar k c (Unmapped (n + 1)) old new
+    unmap_skips so some = same_so (Unmapped n) (Unmapped (n + 1)) new so (λ j f g. (
+      λ d. elim (up_to j n d.0) [
+        | inl lt ↦ (lt, d.1)
+        | inr same ↦ absurd (some (sym (ap (λ (p : ℕ × ℕ). p.1) (alike j n f e g got same)) ∙ d.1))
+      ],
+      λ d. let lt = d.0 in (omega (arith, lt), d.1)
+    ))
+
+    pub unmap_makes : IsPutSoFar k c (Unmapped n) old new → e.1 ≡ 0 → (next : Plain) → HasPut new next (slice_index_or k.pages e.0 0) None → IsPutSoFar k c (Unmapped (n + 1)) old next
+    unmap_makes so none next put = one_more_put (Unmapped n) (Unmapped (n + 1)) new so n e got next None put none (λ j f g. (
+      λ d. elim (up_to j n d.0) [ inl lt ↦ inl (lt, d.1) | inr same ↦ inr same ],
+      λ d. elim d [
+        | inl u ↦ let lt = u.0 in (omega (arith, lt), u.1)
+        | inr same ↦ (omega (arith, same), ap (λ (p : ℕ × ℕ). p.1) (alike j n f e g got same) ∙ none)
+      ]
+    ))
+
+    pub put_skips : IsPutSoFar k c (Put n) old new → e.1 ≡ 0 → IsPutSoFar k c (Put (n + 1)) old new
+    put_skips so none = same_so (Put n) (Put (n + 1)) new so (λ j f g. (
+      λ d. elim d [
+        | inl z ↦ inl z
+        | inr lt ↦ elim (up_to j n lt) [
+          | inl less ↦ inr less
+          | inr same ↦ inl (ap (λ (p : ℕ × ℕ). p.1) (alike j n f e g got same) ∙ none)
+        ]
+      ],
+      λ d. elim d [ inl z ↦ inl z | inr lt ↦ inr (omega (arith, lt)) ]
+    ))
+
+    pub put_makes : IsPutSoFar k c (Put n) old new → (next : Plain) (cells : List Cell) → HasPut new next (slice_index_or k.pages e.0 0) (Some cells) → IsPageName k cells e.1
+        → IsPutSoFar k c (Put (n + 1)) old next
+    put_makes so next cells put named = one_more_put (Put n) (Put (n + 1)) new so n e got next (Some cells) put named (λ j f g. (
+      λ d. elim d [
+        | inl z ↦ inl (inl z)
+        | inr lt ↦ elim (up_to j n lt) [ inl less ↦ inl (inr less) | inr same ↦ inr same ]
+      ],
+      λ d. elim d [
+        | inl (inl z) ↦ inl z
+        | inl (inr lt) ↦ inr (omega (arith, lt))
+        | inr same ↦ inr (omega (arith, same))
+      ]
+    ))
+
+  module _ (n : ℕ) (new : Plain) (end : length c.list.now ≤ n) where
+    inside_list : (j : ℕ) (f : ℕ × ℕ) → slice_get c.list.now j ≡ Some f → j < n
+    inside_list j f g = let lt = slice_get_within c.list.now j f g in omega (arith, lt, end)
+
+    pub unmap_ends : IsPutSoFar k c (Unmapped n) old new → IsPutSoFar k c (λ index name. name ≡ 0) old new
+    unmap_ends so = same_so (Unmapped n) (λ index name. name ≡ 0) new so (λ j f g. (λ d. (inside_list j f g, d), λ d. d.1))
+
+    pub put_ends : IsPutSoFar k c (Put n) old new → IsPutSoFar k c (λ index name. index < length c.list.now) old new
+    put_ends so = same_so (Put n) (λ index name. index < length c.list.now) new so (λ j f g. (λ d. inr (inside_list j f g), λ d. slice_get_within c.list.now j f g))
+
+  pub put_begins : (new : Plain) → IsPutSoFar k c (λ index name. name ≡ 0) old new → IsPutSoFar k c (Put 0) old new
+  put_begins new so = same_so (λ index name. name ≡ 0) (Put 0) new so (λ j f g. (λ d. elim d [ inl z ↦ z | inr lt ↦ absurd (omega (arith, lt)) ], λ d. inl d))
+
+  -- 4. There are frames.
 
   module _ (n : ℕ) (new : Plain) (so : IsPutSoFar k c (λ index name. (name ≡ 0) ⊎ (index < n)) old new) (e : ℕ × ℕ) (got : slice_get c.list.now n ≡ Some e) (some : e.1 ≢ 0) where
     abbrev number : ℕ
@@ -182,7 +254,7 @@ module _ (k : Store) (c : Changes) (old : Plain) (can : CanPut k old c) where
         let room = lt-ltb (length new.memory.pages) new.memory.frames (omega (arith, less, fit, frames, now)) in
         ap (λ (o : Option (List Cell)). not (is_some o) && nat_lt (length new.memory.pages) new.memory.frames) absent ∙ room
 
-  -- 4. All changes are made.
+  -- 5. All changes are made.
 
   pub all_put : (D : ℕ → ℕ → Type 0) (new : Plain) → IsPutSoFar k c D old new → ((j : ℕ) (e : ℕ × ℕ) → slice_get c.list.now j ≡ Some e → D j e.1) → IsPaged new.memory
       → (m : Memory) → IsPaged m → m.frames ≡ old.memory.frames → HasPages k m names → new.memory ≡ m
@@ -194,7 +266,7 @@ module _ (k : Store) (c : Changes) (old : Plain) (can : CanPut k old c) where
       let as_many : new.memory.frames ≡ m.frames = so.frames ∙ sym frames in
       λ j. record { pages = pages j; frames = as_many j }
 
--- 5. From the names of a memory, with the tree of pages made deeper.
+-- 6. From the names of a memory, with the tree of pages made deeper.
 
 pub raised_pages : (k k2 : Store) (mid : List (ℕ × ℕ)) (m : Memory) (n : Names) (height tree : ℕ) → AreMemoryNames k m n
     → IsSameTree k.pairs n mid (record n { height = height; pages = tree }) → HasGrown mid k2.pairs → HasMoreCells k k2 → HasPages k2 m (leaves k2.pairs height tree)

@@ -87,6 +87,12 @@ change_at at (w ∷ was) (n ∷ names) long (suc place) lt other =
 
 -- 2. On the way.
 
+pub up_to : (j n : ℕ) → j < n + 1 → (j < n) ⊎ (j ≡ n)
+up_to j n lt = elim (cases_eq j n) [
+  | inl same ↦ inr same
+  | inr other ↦ inl (omega (arith, lt, other))
+]
+
 pub begins : (was names : List ℕ) (D : ℕ → ℕ → Type 0) → ((j x : ℕ) → D j x → ⊥) → IsOnWay was names D was
 begins was names D none = record { long = refl; either = λ p. inl refl; done = λ j e got d. absurd (none j e.1 d); rest = λ j e got d. refl }
 
@@ -101,9 +107,9 @@ module _ (was names : List ℕ) (long : length was ≡ length names) (D E : ℕ 
   }
 
   -- one change more is made
-  pub made : (n : ℕ) (e : ℕ × ℕ) → slice_get (changed 0 was names) n ≡ Some e → ((j x : ℕ) → E j x → D j x ⊎ (j ≡ n)) → ((j x : ℕ) → D j x ⊎ (j ≡ n) → E j x)
-      → IsOnWay was names E (slice_set now e.0 e.1)
-  made n e got to from = record {
+  pub made : (n : ℕ) (e : ℕ × ℕ) → slice_get (changed 0 was names) n ≡ Some e
+      → ((j : ℕ) (f : ℕ × ℕ) → slice_get (changed 0 was names) j ≡ Some f → (E j f.1 → D j f.1 ⊎ (j ≡ n)) × (D j f.1 ⊎ (j ≡ n) → E j f.1)) → IsOnWay was names E (slice_set now e.0 e.1)
+  made n e got with_it = record {
     long = length-set now e.0 e.1 ∙ way.long;
     either = λ p. elim (cases_eq p e.0) [
       | inl same ↦ inr (ap (λ i. slice_index_or (slice_set now e.0 e.1) i 0) same ∙ here ∙ new ∙ ap (λ i. slice_index_or names i 0) (sym same))
@@ -118,7 +124,7 @@ module _ (was names : List ℕ) (long : length was ≡ length names) (D E : ℕ 
         let two : slice_get (changed 0 was names) n ≡ Some f = ap (slice_get (changed 0 was names)) (sym one) ∙ g in
         let alike : e ≡ f = cc in
         ap (λ i. slice_index_or (slice_set now e.0 e.1) i 0) same ∙ here ∙ ap (λ (p : ℕ × ℕ). p.1) alike
-      | inr other ↦ get_or-set_other now e.0 f.0 e.1 0 other ∙ way.done j f g (elim (to j f.1 d) [
+      | inr other ↦ get_or-set_other now e.0 f.0 e.1 0 other ∙ way.done j f g (elim ((with_it j f g).0 d) [
         | inl before ↦ before
         | inr last ↦
           let two : slice_get (changed 0 was names) n ≡ Some f = ap (slice_get (changed 0 was names)) (sym last) ∙ g in
@@ -126,8 +132,8 @@ module _ (was names : List ℕ) (long : length was ≡ length names) (D E : ℕ 
       ])
     ];
     rest = λ j f g d.
-    get_or-set_other now e.0 f.0 e.1 0 (λ same. d (from j f.1 (inr (change_once 0 was names long j n f e g got same))))
-    ∙ way.rest j f g (λ before. d (from j f.1 (inl before)));
+    get_or-set_other now e.0 f.0 e.1 0 (λ same. d ((with_it j f g).1 (inr (change_once 0 was names long j n f e g got same))))
+    ∙ way.rest j f g (λ before. d ((with_it j f g).1 (inl before)));
   }
     where
       change : IsChange 0 was names e
