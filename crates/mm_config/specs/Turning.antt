@@ -1,9 +1,10 @@
 -- What is noted of a turn.
-use Rattle.std.specs.Prelude.{◌≡◌, ◌⊎◌, ◌↔◌, ℕ, ◌<◌, ◌≤◌, ◌^◌, ◌%◌, List, [], ◌∷◌, ◌++◌, length, slice_index_or, Option, Some, IsSomeAnd}
+use Rattle.std.specs.Prelude.{◌≡◌, ◌⊎◌, ◌↔◌, ℕ, ◌<◌, ◌≤◌, ◌^◌, ◌%◌, List, [], ◌∷◌, ◌++◌, map, length, slice_index_or, Option, Some, IsSomeAnd}
 use Rattle.std.specs.Prelude.{IsBitSet, IfSome}
-use Rattle.mm_model.specs.declared.{slot.SlotState.TheVariants.Running, step.Step.Step}
+use Rattle.mm_word.specs.declared.cause.Cause.{Cause}
+use Rattle.mm_model.specs.declared.{slot.SlotState.TheVariants.Running, step.{Step.Step, Tick.{Tick, TheVariants.Faulted}}}
 use Rattle.mm_word.specs.Access.{AccessValue}
-use Rattle.mm_model.specs.{Image.Image, Memory.{Memory, IsPaged}, Slot.Slot, State.{Core, slot_at, output_of}, Run.turn_of}
+use Rattle.mm_model.specs.{Image.{Image, start}, Spelling.IsImage, Memory.{Memory, IsPaged}, Slot.Slot, State.{Core, slot_at, output_of}, Run.turn_of, Fits.{slots_of, identity_of}}
 use Rattle.mm_laws.specs.Frames.{MemoryLeft}
 use Rattle.mm_thread.specs.SlotIndices.{no_slot, slot_in, queue_in}
 use Rattle.mm_pairs.specs.Trees.{IsTree}
@@ -11,6 +12,26 @@ use Rattle.mm_config.specs.declared.configs.Configs as code
 use Rattle.mm_config.specs.declared.note.Before.{Before}
 use Rattle.mm_config.specs.{Machines.Configs, Naming.{IsSlotName, IsQueueName, IsOutputName, leaf_at, AreMemoryNames}}
 use Rattle.mm_config.specs.{Noting.{IsKeptStill, HasOtherPages, mapped_pages}, Keeping.Stands}
+
+-- 0. At the start.
+
+-- the core and the memory are at the start of an image, and nothing is noted or kept
+pub record HasStarted (i : Image) (c : code.Configs) : Type 0 where
+  pub image : IsImage i
+  pub base : c.base.items ≡ i.slots
+  pub room : c.slots.items ≡ i.slots
+  pub deep : c.depth ≤ 6
+  pub wide : length i.slots ≤ 2 ^ c.depth
+  pub core : c.core ≡ (start i).core
+  pub memory : c.mem.memory ≡ (start i).memory
+  pub uses : c.mem.uses ≡ 0
+  pub pairs : c.store.pairs ≡ []
+  pub outputs : c.store.outputs ≡ []
+  pub lists : c.store.lists ≡ []
+  pub cells : c.store.cells ≡ []
+  pub pages : c.store.pages ≡ []
+  pub names : c.names ≡ record { slots = 0; queues = 0; outputs = 0; height = 0; pages = 0 }
+  pub kept : c.kept.keys ≡ []
 
 -- 1. Before a turn, and after it.
 
@@ -41,7 +62,7 @@ pub record HasTurned (b : Before) (step : Step) (c : code.Configs) : Type 0 wher
 pub record HasTrees (c : code.Configs) : Type 0 where
   pub depth : c.depth ≤ 6
   pub wide : length c.base.items ≤ 2 ^ c.depth
-  pub many : length c.base.items ≡ length c.core.rows
+  pub same : map identity_of c.base.items ≡ map identity_of (slots_of c.core)
   pub slots : IsTree c.store.pairs c.depth c.names.slots
   pub queues : IsTree c.store.pairs c.depth c.names.queues
 
@@ -76,6 +97,13 @@ pub record NotesQueues (IsOne : ℕ → Type 0) (old new : code.Configs) : Type 
   pub still : IsKeptStill old.store new.store
   pub leaves : NotesLeaves (IsQueueNamed new) IsOne old.store.pairs old.depth old.names.queues new.store.pairs new.names.queues
   pub others : new ≡ record old { store = new.store; names = record old.names { queues = new.names.queues }; numbers = new.numbers }
+
+-- a slot that faults, at one index, is handled by that at another
+pub record IsFaultHandler (base : List Slot) (tick : Tick) (at k : ℕ) : Type 0 where
+  pub cause : Cause
+  pub faults : tick ≡ Faulted cause
+  pub within : k < length base
+  pub handler : (slice_index_or base at no_slot).handler ≡ Some (slice_index_or base k no_slot).number
 
 -- 5. Outputs.
 

@@ -61,7 +61,11 @@ pub struct Configs {
 }
 
 /// The least depth of a tree with so many leaves.
-fn depth_for(count: usize) -> u32 {
+fn depth_for(count: usize) -> u32
+    requires few { count ≤ 64 }
+    ensures deep { result ≤ 6 }
+    ensures wide { count ≤ 2 ^ result }
+{
     let mut depth = 0;
     while 1 << depth < count {
         depth += 1;

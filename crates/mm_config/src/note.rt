@@ -1,12 +1,14 @@
 //! Noting what a turn may have changed: its slot, the slots that this handles and that did not run, the queue of its handler
 //! and its own, the output of its group, a page, and the word that it accessed.
 
-ghost use Rattle.std.specs.Prelude.{◌≡◌, ◌⊎◌, ◌<◌, OnOk, length};
+ghost use Rattle.std.specs.Prelude.{◌≡◌, ◌≢◌, ◌⊎◌, ◌<◌, [], OnOk, length, slice_index_or};
+ghost use Rattle.mm_model.specs.Image.{Image as ImageValue, start};
 ghost use Rattle.mm_model.specs.Run.{after};
 ghost use Rattle.mm_config.specs.Configurations.{configuration};
 ghost use Rattle.mm_config.specs.Keeping.{Stands};
-ghost use Rattle.mm_config.specs.Turning.{HasTurned, IsBefore, HasTrees, NotesSlots, IsServedBy, NotesQueues};
-ghost use Rattle.mm_config.specs.Turning.{WasOutput, NotesOutputs, WasMemory, NotesMemory};
+ghost use Rattle.mm_config.specs.Turning.{HasStarted, HasTurned, IsBefore, HasTrees, NotesSlots, IsServedBy, NotesQueues};
+ghost use Rattle.mm_config.specs.Turning.{WasOutput, NotesOutputs, WasMemory, NotesMemory, IsFaultHandler};
+ghost use Rattle.mm_thread.specs.SlotIndices.{no_slot};
 
 use crate::configs::Configs;
 use crate::events::put_events;
@@ -43,7 +45,11 @@ fn written(access: Option<Access>) -> Option<u64> {
 
 impl Configs {
     /// Notes all parts, given the pages.
-    pub(crate) fn note_all(&mut self, pages: &[Page]) -> Result<(), AllocError> {
+    pub(crate) fn note_all(&mut self, pages: &[Page]) -> Result<(), AllocError>
+        requires { (i : ImageValue) × HasStarted i self.old × (pages.now ≡ i.memory.pages) }
+        ensures { OnOk result ((i : ImageValue) → HasStarted i self.old → pages.now ≡ i.memory.pages
+            → Stands i (record { kept = []; machine = configuration (start i) }) self.new) }
+    {
         for at in 0..self.base.len() {
             self.note_slot(at)?;
         }
@@ -130,7 +136,12 @@ impl Configs {
     }
 
     /// Notes the queues that a turn of the slot at an index may have changed.
-    fn note_queues(&mut self, at: usize, step: &Step) -> Result<(), AllocError> {
+    fn note_queues(&mut self, at: usize, step: &Step) -> Result<(), AllocError>
+        requires trees { HasTrees self.old }
+        requires within { at < length self.old.base.items }
+        ensures { OnOk result (NotesQueues (λ k. IsFaultHandler self.old.base.items step.now.tick at k
+            ⊎ ((k ≡ at) × (self.new.names.queues ≢ 0))) self.old self.new) }
+    {
         if let Tick::Faulted(_) = step.tick {
             if let Some(handler) = self.base[at].handler {
                 self.note_queue_of(handler)?;
@@ -143,7 +154,11 @@ impl Configs {
     }
 
     /// Notes the queue of the slot of a number.
-    fn note_queue_of(&mut self, number: u8) -> Result<(), AllocError> {
+    fn note_queue_of(&mut self, number: u8) -> Result<(), AllocError>
+        requires { HasTrees self.old }
+        ensures { OnOk result (NotesQueues (λ k. (k < length self.old.base.items)
+            × ((slice_index_or self.old.base.items k no_slot).number ≡ number)) self.old self.new) }
+    {
         match self.core.place(number) {
             Some(at) => self.note_queue(at),
             None => Ok(()),
