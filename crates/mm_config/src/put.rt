@@ -37,7 +37,8 @@ impl Configs {
         put_memory(
             &mut self.store,
             &mut self.mem,
-            (&self.names, &wanted),
+            &self.names,
+            &wanted,
             &mut self.changed,
             &mut self.changed_cells,
         )?;
