@@ -123,7 +123,7 @@ module _ (base : List Slot) (core now : Core) (old new : Store) (still : IsKeptS
   -- names of queues likewise
   pub queues_settled : AreLeaves (λ (row : ThreadRow) name. IsQueueName old row.queue name) core.rows old.pairs depth was
       → NotesLeaves (λ k name. (k < length base) × IsQueueName new (queue_in now k) name) Noted old.pairs depth was new.pairs tree
-      → ((k : ℕ) → k < length core.rows → (Noted k → ⊥) → queue_in now k ≡ queue_in core k)
+      → ((k : ℕ) → k < length core.rows → (Noted k → ⊥) → leaf_at new.pairs depth tree k ≡ leaf_at old.pairs depth was k → queue_in now k ≡ queue_in core k)
       → AreLeaves (λ (row : ThreadRow) name. IsQueueName new row.queue name) now.rows new.pairs depth tree
   queues_settled of notes left =
       settled (λ (row : ThreadRow) name. IsQueueName old row.queue name) (λ (row : ThreadRow) name. IsQueueName new row.queue name) core.rows now.rows no_row
@@ -135,4 +135,4 @@ module _ (base : List Slot) (core now : Core) (old new : Store) (still : IsKeptS
               old.pairs new.pairs depth was tree of same notes.inner k
       by k (inl h) = let lt = h.0 in inl (omega (arith, lt, many), h.1)
       by k (inr h) = inr (h.1, λ lt name is.
-        subst (λ q. IsQueueName new q name) (sym (left k lt h.0)) (queue_stays old new still (queue_in core k) name is))
+        subst (λ q. IsQueueName new q name) (sym (left k lt h.0 h.1)) (queue_stays old new still (queue_in core k) name is))

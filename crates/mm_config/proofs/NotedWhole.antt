@@ -1,16 +1,28 @@
 -- A machine stands at the configuration after a turn of which all was noted.
-use Rattle.std.proofs.Common.{◌≡◌, ◌≢◌, ◌⊎◌, inl, inr, ℕ, ◌<◌, ◌≤◌, List, [], map, length, slice_index_or, refl, sym, ap, ◌∙◌, subst, arith}
-use Rattle.std.proofs.lemmas.{Bool.cases_eq, List.length-map}
-use Rattle.std.specs.Prelude.zip
-use Rattle.mm_model.specs.{declared.step.Step.Step, Slot.Slot, Image.Image, State.{ThreadRow, Core, State}, Run.{turn_of, after}, Fits.{slots_of, identity_of, IsCore}}
-use Rattle.mm_thread.specs.SlotIndices.{no_slot, slot_in, queue_in, with_slot}
+use Rattle.std.proofs.Common.{◌≡◌, ◌≢◌, ◌⊎◌, inl, inr, ℕ, ◌<◌, ◌≤◌, List, [], ◌∷◌, map, length, slice_index_or, refl, sym, ap, ◌∙◌, subst, arith}
+use Rattle.std.proofs.lemmas.{Bool.cases_eq, List.{length-map, get_or-map}, Option.slice_get-get_or}
+use Rattle.std.specs.Prelude.{zip, IsBitSet, IsSomeAnd, ◌↔◌}
+use Rattle.mm_model.specs.declared.{event.Event.Event, step.Step.Step, slot.SlotState.TheVariants.Running}
+use Rattle.mm_model.specs.{Slot.Slot, Image.Image, State.{ThreadRow, Core, State, slot_at}, Run.{turn_of, after}, Fits.{slots_of, identity_of, IsCore}}
+use Rattle.mm_thread.specs.SlotIndices.{no_slot, no_row, slot_in, queue_in, with_slot}
 use Rattle.mm_thread.proofs.Revised.{slots_many}
 use Rattle.mm_config.specs.declared.configs.Configs as code
 use Rattle.mm_config.specs.declared.{note.Before.Before, store.Store.Store, names.Names.Names}
-use Rattle.mm_config.specs.{Configurations.{uncounted, configuration}, Machines.Configs, Naming.{AreNamesOf, AreLeaves, IsSlotName, IsQueueName, leaf_at}}
-use Rattle.mm_config.specs.{Noting.IsKeptStill, Keeping.{Stands, IsConfigurationOf}, Turning.{HasTurned, NotesSlots, NotesQueues, IsServedBy, IsFaultHandler}}
+use Rattle.mm_config.specs.{Configurations.{uncounted_slot, uncounted_row, uncounted, configuration}, Machines.Configs, Forms.queue_form}
+use Rattle.mm_config.specs.Naming.{AreNamesOf, AreLeaves, IsOrNone, IsSlotName, IsQueueName, leaf_at}
+use Rattle.mm_config.specs.{Noting.IsKeptStill, Keeping.{Stands, IsConfigurationOf}, Turning.{HasTurned, NotesLeaves, NotesSlots, NotesQueues, IsServedBy, IsFaultHandler}}
 use Rattle.mm_config.proofs.{NextState.{core_before, core_after, frame, same_identities, uncounted_core, bare_core_whole}, NotedTurn.{slots_settled, queues_settled}}
-use Rattle.mm_config.proofs.{Staying.{leaves_stay_named, queue_stays}, PageTrees.none_at, TurnNames.{slot_stays_in, queue_stays_in}}
+use Rattle.mm_config.proofs.{Staying.{leaves_stay_named, queue_stays}, PageTrees.none_at, TurnNames.{identity_in, slot_stays_in, queue_stays_in}}
+
+no_events : (q : List Event) → [] ≡ queue_form q → q ≡ []
+no_events [] e = refl
+no_events (x ∷ q) e = cc
+
+uncounted_in : (core : Core) (k : ℕ) → k < length core.rows → slot_in (uncounted core) k ≡ uncounted_slot (slot_in core k)
+uncounted_in core k lt = ap (λ (row : ThreadRow). row.slot) (get_or-map uncounted_row core.rows k no_row no_row lt)
+
+queue_bare : (core : Core) (k : ℕ) → k < length core.rows → queue_in (uncounted core) k ≡ queue_in core k
+queue_bare core k lt = ap (λ (row : ThreadRow). row.queue) (get_or-map uncounted_row core.rows k no_row no_row lt)
 
 module _ (b : Before) (step : Step) (c : code.Configs) (t : HasTurned b step c) where
   abbrev i : Image
@@ -40,6 +52,16 @@ module _ (b : Before) (step : Step) (c : code.Configs) (t : HasTurned b step c) 
 
   base_many : length i.slots ≡ length s.core.rows
   base_many = slots_many i.slots s.core base_same
+
+  after_core : IsCore later
+  after_core = core_after i s t.item t.stands.image config
+
+  bare_rows : length bare.rows ≡ length s.core.rows
+  bare_rows = length-map later.rows uncounted_row ∙ rows_same
+
+  bare_before : uncounted s.core ≡ s.core
+  unfolding configuration
+  bare_before = ap (λ (x : State). x.core) config.bare
 
   module _ (at : ℕ) (within : at < length c.core.rows) (number : (slot_in c.core at).number ≡ step.slot) where
     inside : at < length later.rows
@@ -78,10 +100,27 @@ module _ (b : Before) (step : Step) (c : code.Configs) (t : HasTurned b step c) 
         base_2 = ap (λ (x : code.Configs). x.base.items) slots.others ∙ base_1
 
         bare_slot : (k : ℕ) → k < length s.core.rows → ((k ≡ at) ⊎ IsServedBy c1.base.items step.slot b.running k → ⊥) → slot_in bare k ≡ slot_in s.core k
-        bare_slot k lt none = ?
+        bare_slot k lt none =
+            let same = same_identities i s t.item t.stands.image config in
+            let first : at < length s.core.rows = omega (arith, inside, rows_same) in
+            let there : (slot_in s.core at).number ≡ (turn_of s t.item).step.slot = ap (λ x. x.0) (sym (identity_in s.core later before after_core same at first)) ∙ own in
+            let stays : slot_in later k ≡ slot_in s.core k =
+            slot_stays_in s.core later before after_core same c1.base.items at (turn_of s t.item).step.slot b.running (ap (map identity_of) base_1 ∙ base_same) first there
+            (subst (λ (core : Core). (n : ℕ) → IsBitSet b.running n ↔ IsSomeAnd (slot_at core n) (λ x. x.state ≡ Running)) t.stands.machine.core t.before.running)
+            (frame i s t.item t.stands.image config).slots k lt (λ e. none (inl e))
+            (λ h. none (inr (subst (λ n. IsServedBy c1.base.items n b.running k) (ap (λ (x : Step). x.slot) (sym t.step)) h))) in
+            uncounted_in later k (omega (arith, lt, rows_same)) ∙ ap uncounted_slot stays
+            ∙ sym (uncounted_in s.core k lt) ∙ ap (λ (core : Core). slot_in core k) bare_before
 
         pub slots_2 : AreLeaves (λ (x : Slot × Slot) name. IsSlotName c2.store x.0 x.1 name) (zip i.slots (slots_of bare)) c2.store.pairs c1.depth c2.names.slots
-        slots_2 = ?
+        slots_2 =
+            slots_settled i.slots s.core bare c1.store c2.store slots.still c1.depth c1.names.slots c2.names.slots (λ k. (k ≡ at) ⊎ IsServedBy c1.base.items step.slot b.running k)
+            base_many bare_rows names_1.slots
+            (subst (λ (l : List Slot). NotesLeaves (λ k name. (k < length l) × IsSlotName c2.store (slice_index_or l k no_slot) (slot_in bare k) name)
+              (λ k. (k ≡ at) ⊎ IsServedBy c1.base.items step.slot b.running k) c1.store.pairs c1.depth c1.names.slots c2.store.pairs c2.names.slots) base_2
+              (subst (λ (core : Core). NotesLeaves (λ k name. (k < length c2.base.items) × IsSlotName c2.store (slice_index_or c2.base.items k no_slot) (slot_in core k) name)
+                (λ k. (k ≡ at) ⊎ IsServedBy c1.base.items step.slot b.running k) c1.store.pairs c1.depth c1.names.slots c2.store.pairs c2.names.slots) core_2 slots.leaves))
+            bare_slot
 
         pub queues_2 : AreLeaves (λ (row : ThreadRow) name. IsQueueName c2.store row.queue name) s.core.rows c2.store.pairs c2.depth c2.names.queues
         queues_2 =
@@ -94,5 +133,39 @@ module _ (b : Before) (step : Step) (c : code.Configs) (t : HasTurned b step c) 
           pub core_3 : c3.core ≡ bare
           core_3 = ap (λ (x : code.Configs). x.core) queues.others ∙ core_2
 
+          abbrev Due : ℕ → Type 0
+          Due k = IsFaultHandler c2.base.items step.tick at k ⊎ ((k ≡ at) × (c3.names.queues ≢ 0))
+
+          -- the own queue was empty if its leaf was left and there are no queues
+          own_empty : (k : ℕ) → k < length s.core.rows → c3.names.queues ≡ 0 → leaf_at c3.store.pairs c2.depth c3.names.queues k ≡ leaf_at c2.store.pairs c2.depth c2.names.queues k → queue_in s.core k ≡ []
+          own_empty k lt none same =
+              let zero : leaf_at c2.store.pairs c2.depth c2.names.queues k ≡ 0 =
+              sym same ∙ ap (λ n. leaf_at c3.store.pairs c2.depth n k) none ∙ none_at c3.store.pairs c2.depth k in
+              let named = subst (λ o. IsOrNone (λ (row : ThreadRow) name. IsQueueName c2.store row.queue name) o (leaf_at c2.store.pairs c2.depth c2.names.queues k)) (slice_get-get_or s.core.rows k no_row lt)
+              (queues_2.each k) in
+              no_events (queue_in s.core k) (subst (λ n. IsQueueName c2.store (queue_in s.core k) n) zero named).is
+
+          bare_queue : (k : ℕ) → k < length s.core.rows → (Due k → ⊥) → leaf_at c3.store.pairs c2.depth c3.names.queues k ≡ leaf_at c2.store.pairs c2.depth c2.names.queues k → queue_in bare k ≡ queue_in s.core k
+          bare_queue k lt none same =
+              let alike = same_identities i s t.item t.stands.image config in
+              let first : at < length s.core.rows = omega (arith, inside, rows_same) in
+              let there : (slot_in s.core at).number ≡ (turn_of s t.item).step.slot = ap (λ x. x.0) (sym (identity_in s.core later before after_core alike at first)) ∙ own in
+              queue_bare later k (omega (arith, lt, rows_same))
+              ∙ queue_stays_in s.core later before after_core alike c2.base.items at (turn_of s t.item).step.slot (turn_of s t.item).step.tick (ap (map identity_of) base_2 ∙ base_same) first there
+                (frame i s t.item t.stands.image config).queues k lt (λ h. none (inl (subst (λ (x : Step). IsFaultHandler c2.base.items x.tick at k) (sym t.step) h)))
+                (elim (cases_eq k at) [
+                  | inr ne ↦ inl ne
+                  | inl e ↦ elim (cases_eq c3.names.queues 0) [
+                    | inl zero ↦ inr (own_empty k lt zero same)
+                    | inr some ↦ absurd (none (inr (e, some)))
+                  ]
+                ])
+
           pub queues_3 : AreLeaves (λ (row : ThreadRow) name. IsQueueName c3.store row.queue name) bare.rows c3.store.pairs c2.depth c3.names.queues
-          queues_3 = ?
+          queues_3 =
+              queues_settled i.slots s.core bare c2.store c3.store queues.still c2.depth c2.names.queues c3.names.queues Due base_many bare_rows queues_2
+              (subst (λ (l : List Slot). NotesLeaves (λ k name. (k < length l) × IsQueueName c3.store (queue_in bare k) name) Due c2.store.pairs c2.depth c2.names.queues c3.store.pairs c3.names.queues)
+                (ap (λ (x : code.Configs). x.base.items) queues.others ∙ base_2)
+                (subst (λ (core : Core). NotesLeaves (λ k name. (k < length c3.base.items) × IsQueueName c3.store (queue_in core k) name) Due c2.store.pairs c2.depth c2.names.queues c3.store.pairs c3.names.queues)
+                core_3 queues.leaves))
+              bare_queue
