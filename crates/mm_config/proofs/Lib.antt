@@ -14,6 +14,7 @@ pub mod TurnNames
 pub mod NotedTurn
 pub mod NextState
 pub mod OwnCells
+pub mod NotedRest
 pub mod NotedWhole
 pub mod Revising
 pub mod Turned
