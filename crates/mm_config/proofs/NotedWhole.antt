@@ -1,18 +1,30 @@
 -- A machine stands at the configuration after a turn of which all was noted.
-use Rattle.std.proofs.Common.{◌≡◌, ◌≢◌, ◌⊎◌, inl, inr, ℕ, ◌<◌, ◌≤◌, List, [], ◌∷◌, map, length, slice_index_or, refl, sym, ap, ◌∙◌, subst, arith}
+use Rattle.std.proofs.Common.{◌≡◌, ◌≢◌, ◌⊎◌, inl, inr, ℕ, ◌<◌, ◌≤◌, ◌^◌, Option, Some, List, [], ◌∷◌, map, length, slice_index_or, refl, sym, ap, ◌∙◌, subst, arith}
 use Rattle.std.proofs.lemmas.{Bool.cases_eq, List.{length-map, get_or-map}, Option.slice_get-get_or}
 use Rattle.std.specs.Prelude.{zip, IsBitSet, IsSomeAnd, ◌↔◌}
 use Rattle.mm_model.specs.declared.{event.Event.Event, step.Step.Step, slot.SlotState.TheVariants.Running}
-use Rattle.mm_model.specs.{Slot.Slot, Image.Image, State.{ThreadRow, Core, State, slot_at}, Run.{turn_of, after}, Fits.{slots_of, identity_of, IsCore}}
+use Rattle.mm_model.specs.{Slot.Slot, Image.Image, Memory.Memory, State.{ThreadRow, Core, State, slot_at, output_of}, Run.{turn_of, after}, Fits.{slots_of, identity_of, IsCore}}
 use Rattle.mm_thread.specs.SlotIndices.{no_slot, no_row, slot_in, queue_in, with_slot}
-use Rattle.mm_thread.proofs.Revised.{slots_many}
+use Rattle.mm_thread.proofs.{Index.slot_found, Revised.slots_many, RowIndex.apart_in}
 use Rattle.mm_config.specs.declared.configs.Configs as code
 use Rattle.mm_config.specs.declared.{note.Before.Before, store.Store.Store, names.Names.Names}
 use Rattle.mm_config.specs.{Configurations.{uncounted_slot, uncounted_row, uncounted, configuration}, Machines.Configs, Forms.queue_form}
-use Rattle.mm_config.specs.Naming.{AreNamesOf, AreLeaves, IsOrNone, IsSlotName, IsQueueName, leaf_at}
-use Rattle.mm_config.specs.{Noting.IsKeptStill, Keeping.{Stands, IsConfigurationOf}, Turning.{HasTurned, NotesLeaves, NotesSlots, NotesQueues, IsServedBy, IsFaultHandler}}
-use Rattle.mm_config.proofs.{NextState.{core_before, core_after, frame, same_identities, uncounted_core, bare_core_whole}, NotedTurn.{slots_settled, queues_settled}}
-use Rattle.mm_config.proofs.{Staying.{leaves_stay_named, queue_stays}, PageTrees.none_at, TurnNames.{identity_in, slot_stays_in, queue_stays_in}}
+use Rattle.mm_config.specs.Naming.{AreNamesOf, AreMemoryNames, AreLeaves, IsOrNone, IsRest, IsSlotName, IsQueueName, IsOutputName, leaf_at}
+use Rattle.mm_laws.specs.Frames.{OutputLeft}
+use Rattle.mm_config.specs.{Noting.{IsKeptStill, mapped_pages}, Keeping.{Stands, IsConfigurationOf}, Turning.{HasTurned, NotesLeaves, NotesSlots, NotesQueues, NotesOutputs, NotesMemory, IsServedBy, IsFaultHandler}}
+use Rattle.mm_config.proofs.{NextState.{core_before, core_after, frame, same_identities, uncounted_core, bare_core_whole, next_config}, NotedTurn.{slots_settled, queues_settled}}
+use Rattle.mm_config.proofs.{Staying.{leaves_stay_named, slot_stays, queue_stays, output_stays, memory_stays}, PageTrees.none_at, Noted.twice, NotedRest.outputs_settled}
+use Rattle.mm_config.proofs.{Standing.stands_at, TurnNames.{base_identity, identity_in, slot_stays_in, queue_stays_in}}
+
+-- what no note changes
+record KeepsParts (old new : code.Configs) : Type 0 where
+  base : new.base ≡ old.base
+  slots : new.slots ≡ old.slots
+  depth : new.depth ≡ old.depth
+  kept : new.kept ≡ old.kept
+
+parts_twice : (a b c : code.Configs) → KeepsParts a b → KeepsParts b c → KeepsParts a c
+parts_twice a b c h g = record { base = g.base ∙ h.base; slots = g.slots ∙ h.slots; depth = g.depth ∙ h.depth; kept = g.kept ∙ h.kept }
 
 no_events : (q : List Event) → [] ≡ queue_form q → q ≡ []
 no_events [] e = refl
@@ -169,3 +181,160 @@ module _ (b : Before) (step : Step) (c : code.Configs) (t : HasTurned b step c) 
                 (subst (λ (core : Core). NotesLeaves (λ k name. (k < length c3.base.items) × IsQueueName c3.store (queue_in core k) name) Due c2.store.pairs c2.depth c2.names.queues c3.store.pairs c3.names.queues)
                 core_3 queues.leaves))
               bare_queue
+
+          outputs_3 : AreLeaves (IsOutputName c3.store) s.core.outputs c3.store.pairs 6 c3.names.outputs
+          outputs_3 =
+              let still = twice c1.store c2.store c3.store slots.still queues.still in
+              subst (AreLeaves (IsOutputName c3.store) s.core.outputs c3.store.pairs 6)
+              (sym (ap (λ (x : code.Configs). x.names.outputs) queues.others ∙ ap (λ (x : code.Configs). x.names.outputs) slots.others))
+              (leaves_stay_named (IsOutputName c1.store) (IsOutputName c3.store) (output_stays c1.store c3.store still) s.core.outputs c1.store.pairs c3.store.pairs still.pairs 6 c1.names.outputs names_1.outputs)
+
+          abbrev group : ℕ
+          group = (slice_index_or c3.base.items at no_slot).group
+
+          bare_output : (g : ℕ) → g < 64 → (g ≡ group → ⊥) → output_of bare g ≡ output_of s.core g
+          unfolding output_of
+          bare_output g lt ne = cases ((frame i s t.item t.stands.image config).outputs g)
+            where
+              base_3 : c3.base.items ≡ i.slots
+              base_3 = ap (λ (x : code.Configs). x.base.items) queues.others ∙ base_2
+
+              first : at < length s.core.rows
+              first = omega (arith, inside, rows_same)
+
+              there : (slot_in s.core at).number ≡ (turn_of s t.item).step.slot
+              there = ap (λ x. x.0) (sym (identity_in s.core later before after_core (same_identities i s t.item t.stands.image config) at first)) ∙ own
+
+              cases : OutputLeft s.core later (turn_of s t.item).step.slot g → output_of later g ≡ output_of s.core g
+              cases (OutputLeft.Same e) = e
+              cases (OutputLeft.Put h) =
+                  let here : slot_at s.core (turn_of s t.item).step.slot ≡ Some (slot_in s.core at) = ap (slot_at s.core) (sym there) ∙ slot_found s.core (apart_in s.core before) at first in
+                  let two : ◌≡◌ {A = Option Slot} (Some h.slot) (Some (slot_in s.core at)) = sym h.there ∙ here in
+                  let one : h.slot ≡ slot_in s.core at = cc in
+                  let base = base_identity c3.base.items s.core (ap (map identity_of) base_3 ∙ base_same) at first in
+                  absurd (ne (sym h.group ∙ ap (λ (x : Slot). x.group) one ∙ sym (ap (λ x. x.1) base)))
+
+          -- the outputs
+          module _ (c4 : code.Configs) (outputs : NotesOutputs (λ g. g ≡ group) c3 c4) where
+            core_4 : c4.core ≡ bare
+            core_4 = ap (λ (x : code.Configs). x.core) outputs.others ∙ core_3
+
+            outputs_4 : AreLeaves (IsOutputName c4.store) bare.outputs c4.store.pairs 6 c4.names.outputs
+            outputs_4 =
+                outputs_settled s.core bare c3.store c4.store outputs.still c3.names.outputs c4.names.outputs group before.formed.outputs whole.formed.outputs outputs_3
+                (subst (λ (core : Core). NotesLeaves (λ g name. IsOutputName c4.store (output_of core g) name) (λ g. g ≡ group) c3.store.pairs 6 c3.names.outputs c4.store.pairs c4.names.outputs)
+                core_4 outputs.leaves)
+                bare_output
+
+            -- all
+            module _ (c5 c6 : code.Configs) (memory : NotesMemory c4 c5) (last : c6 ≡ record c5 { store = c6.store; rest = c6.rest }) (more : IsKeptStill c5.store c6.store)
+                (rest : IsRest c6.store.pairs c6.names c6.rest) where
+              later_than_4 : IsKeptStill c4.store c6.store
+              later_than_4 = twice c4.store c5.store c6.store memory.still more
+
+              later_than_3 : IsKeptStill c3.store c6.store
+              later_than_3 = twice c3.store c4.store c6.store outputs.still later_than_4
+
+              later_than_2 : IsKeptStill c2.store c6.store
+              later_than_2 = twice c2.store c3.store c6.store queues.still later_than_3
+
+              later_than_1 : IsKeptStill c1.store c6.store
+              later_than_1 = twice c1.store c2.store c6.store slots.still later_than_2
+
+              parts : KeepsParts t.was c6
+              parts =
+                  parts_twice t.was c1 c6 (record {
+                    base = ap (λ (x : code.Configs). x.base) rest_1;
+                    slots = ap (λ (x : code.Configs). x.slots) rest_1;
+                    depth = ap (λ (x : code.Configs). x.depth) rest_1;
+                    kept = ap (λ (x : code.Configs). x.kept) rest_1;
+                  })
+                  (parts_twice c1 c2 c6 (record {
+                    base = ap (λ (x : code.Configs). x.base) slots.others;
+                    slots = ap (λ (x : code.Configs). x.slots) slots.others;
+                    depth = ap (λ (x : code.Configs). x.depth) slots.others;
+                    kept = ap (λ (x : code.Configs). x.kept) slots.others;
+                  })
+                  (parts_twice c2 c3 c6 (record {
+                    base = ap (λ (x : code.Configs). x.base) queues.others;
+                    slots = ap (λ (x : code.Configs). x.slots) queues.others;
+                    depth = ap (λ (x : code.Configs). x.depth) queues.others;
+                    kept = ap (λ (x : code.Configs). x.kept) queues.others;
+                  })
+                  (parts_twice c3 c4 c6 (record {
+                    base = ap (λ (x : code.Configs). x.base) outputs.others;
+                    slots = ap (λ (x : code.Configs). x.slots) outputs.others;
+                    depth = ap (λ (x : code.Configs). x.depth) outputs.others;
+                    kept = ap (λ (x : code.Configs). x.kept) outputs.others;
+                  })
+                  (record {
+                    base = ap (λ (x : code.Configs). x.base) last ∙ ap (λ (x : code.Configs). x.base) memory.others;
+                    slots = ap (λ (x : code.Configs). x.slots) last ∙ ap (λ (x : code.Configs). x.slots) memory.others;
+                    depth = ap (λ (x : code.Configs). x.depth) last ∙ ap (λ (x : code.Configs). x.depth) memory.others;
+                    kept = ap (λ (x : code.Configs). x.kept) last ∙ ap (λ (x : code.Configs). x.kept) memory.others;
+                  }))))
+
+              mem_same : c6.mem ≡ c.mem
+              mem_same =
+                  ap (λ (x : code.Configs). x.mem) last ∙ ap (λ (x : code.Configs). x.mem) memory.others ∙ ap (λ (x : code.Configs). x.mem) outputs.others
+                  ∙ ap (λ (x : code.Configs). x.mem) queues.others ∙ ap (λ (x : code.Configs). x.mem) slots.others ∙ ap (λ (x : code.Configs). x.mem) one
+
+              names_5 : c6.names ≡ c5.names
+              names_5 = ap (λ (x : code.Configs). x.names) last
+
+              -- its names, but for the tree of pages, are those that were noted first
+              names_4 : c6.names ≡ record c4.names { height = c5.names.height; pages = c5.names.pages }
+              names_4 = names_5 ∙ memory.pages
+
+              slots_name : c6.names.slots ≡ c2.names.slots
+              slots_name =
+                  ap (λ (n : Names). n.slots) names_4 ∙ ap (λ (x : code.Configs). x.names.slots) outputs.others ∙ ap (λ (x : code.Configs). x.names.slots) queues.others
+
+              queues_name : c6.names.queues ≡ c3.names.queues
+              queues_name = ap (λ (n : Names). n.queues) names_4 ∙ ap (λ (x : code.Configs). x.names.queues) outputs.others
+
+              outputs_name : c6.names.outputs ≡ c4.names.outputs
+              outputs_name = ap (λ (n : Names). n.outputs) names_4
+
+              depth_1 : c6.depth ≡ c1.depth
+              depth_1 = parts.depth ∙ sym (ap (λ (x : code.Configs). x.depth) rest_1)
+
+              depth_2 : c6.depth ≡ c2.depth
+              depth_2 = depth_1 ∙ sym (ap (λ (x : code.Configs). x.depth) slots.others)
+
+              next : State
+              next = configuration (after s t.item)
+
+              named : AreNamesOf i.slots c6.depth c6.store next c6.names
+              unfolding configuration after
+              named = record {
+                slots = subst (λ d. AreLeaves (λ (x : Slot × Slot) name. IsSlotName c6.store x.0 x.1 name) (zip i.slots (slots_of bare)) c6.store.pairs d c6.names.slots) (sym depth_1)
+                    (subst (AreLeaves (λ (x : Slot × Slot) name. IsSlotName c6.store x.0 x.1 name) (zip i.slots (slots_of bare)) c6.store.pairs c1.depth) (sym slots_name)
+                    (leaves_stay_named (λ (x : Slot × Slot) name. IsSlotName c2.store x.0 x.1 name) (λ (x : Slot × Slot) name. IsSlotName c6.store x.0 x.1 name)
+                      (λ x name. slot_stays c2.store c6.store later_than_2 x.0 x.1 name) (zip i.slots (slots_of bare)) c2.store.pairs c6.store.pairs later_than_2.pairs c1.depth c2.names.slots slots_2));
+                queues = subst (λ d. AreLeaves (λ (row : ThreadRow) name. IsQueueName c6.store row.queue name) bare.rows c6.store.pairs d c6.names.queues) (sym depth_2)
+                    (subst (AreLeaves (λ (row : ThreadRow) name. IsQueueName c6.store row.queue name) bare.rows c6.store.pairs c2.depth) (sym queues_name)
+                    (leaves_stay_named (λ (row : ThreadRow) name. IsQueueName c3.store row.queue name) (λ (row : ThreadRow) name. IsQueueName c6.store row.queue name)
+                      (λ row name. queue_stays c3.store c6.store later_than_3 row.queue name) bare.rows c3.store.pairs c6.store.pairs later_than_3.pairs c2.depth c3.names.queues queues_3));
+                outputs = subst (AreLeaves (IsOutputName c6.store) bare.outputs c6.store.pairs 6) (sym outputs_name)
+                    (leaves_stay_named (IsOutputName c4.store) (IsOutputName c6.store) (output_stays c4.store c6.store later_than_4) bare.outputs c4.store.pairs c6.store.pairs later_than_4.pairs 6 c4.names.outputs outputs_4);
+                memory = subst (λ (m : Memory). AreMemoryNames c6.store m c6.names) memory_now
+                    (subst (AreMemoryNames c6.store c5.mem.memory) (sym names_5) (memory_stays c5.store c6.store more c5.mem.memory c5.names memory.names));
+              }
+                where
+                  memory_now : c5.mem.memory ≡ (turn_of s t.item).memory
+                  memory_now = ap (λ (x : code.Configs). x.mem.memory) (sym last) ∙ ap (λ x. x.memory) mem_same ∙ t.memory
+
+              pub stands_after : Stands i (record t.at { machine = next }) c6
+              unfolding configuration after
+              stands_after =
+                  stands_at i t.at next t.was c6 t.stands parts.base (ap (λ x. map identity_of x.items) parts.slots) parts.depth parts.kept
+                  (subst (λ (k : Store). IsKeptStill k c6.store) (ap (λ (x : code.Configs). x.store) rest_1) later_than_1)
+                  (record {
+                    core = ap (λ (x : code.Configs). x.core) last ∙ ap (λ (x : code.Configs). x.core) memory.others ∙ core_4;
+                    memory = ap (λ x. x.memory) mem_same ∙ t.memory;
+                    config = next_config i s t.item t.stands.image config at inside own;
+                    uses = subst (λ n. n < 2 ^ 61) (ap (λ x. x.uses) (sym mem_same)) t.uses;
+                    mapped = ap (λ (x : code.Configs). x.mapped.items) last ∙ memory.mapped ∙ ap mapped_pages (ap (λ (x : code.Configs). x.mem.memory) (sym last) ∙ ap (λ x. x.memory) mem_same ∙ t.memory);
+                  })
+                  (record { names = named; rest = rest })

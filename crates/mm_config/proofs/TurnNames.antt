@@ -11,7 +11,7 @@ use Rattle.mm_laws.specs.Frames.{LeavesTheRest, SlotLeft, QueueLeft}
 use Rattle.mm_config.specs.Turning.{IsServedBy, IsFaultHandler}
 
 -- the slot of a list at an index has the identity of that of a core
-base_identity : (base : List Slot) (core : Core) → map identity_of base ≡ map identity_of (slots_of core) → (k : ℕ) → k < length core.rows
+pub base_identity : (base : List Slot) (core : Core) → map identity_of base ≡ map identity_of (slots_of core) → (k : ℕ) → k < length core.rows
     → identity_of (slice_index_or base k no_slot) ≡ identity_of (slot_in core k)
 base_identity base core alike k lt =
     let many = slots_many base core alike in
