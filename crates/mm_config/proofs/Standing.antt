@@ -1,5 +1,5 @@
 -- A machine that is put to another configuration.
-use Rattle.std.proofs.Common.{◌≡◌, ◌⊎◌, Vec, Global, ℕ, ◌+◌, ◌<◌, ◌≤◌, List, [], ◌∷◌, ◌++◌, map, length, take, Bool, false, if◌then◌else◌, slice_index_or, refl, sym, ap, ◌∙◌, subst, arith, length-append}
+use Rattle.std.proofs.Common.{◌≡◌, ◌⊎◌, Vec, Global, ℕ, ◌+◌, ◌<◌, ◌≤◌, ◌^◌, List, [], ◌∷◌, ◌++◌, map, length, take, Bool, false, if◌then◌else◌, slice_index_or, refl, sym, ap, ◌∙◌, subst, arith, length-append}
 use Rattle.std.proofs.lemmas.List.{length-map, length-take-le}
 use Rattle.std.specs.List.{AllByRecursion, AllZip}
 use Rattle.mm_model.specs.{declared.event.Event.Event, Slot.Slot, Flags.flags, Memory.Memory, Image.Image, State.{ThreadRow, Core, State, output_of}}
@@ -9,10 +9,10 @@ use Rattle.mm_thread.specs.{SlotIndices.{no_slot, slot_in, queue_in}, Revisions.
 use Rattle.mm_thread.proofs.{Cores.output_short, Index.queue_found, RowIndex.{apart_in, few_rows, small_numbers}}
 use Rattle.mm_config.specs.declared.configs.Configs as code
 use Rattle.mm_config.specs.declared.{store.Store.Store, names.Names.Names}
-use Rattle.mm_config.specs.{Configurations.configuration, Machines.Configs, Naming.{AreNamesOf, IsRest, IsKeptOnce}, Noting.IsKeptStill}
+use Rattle.mm_config.specs.{Configurations.configuration, Machines.Configs, Naming.{AreNamesOf, IsRest, IsKeptOnce}, Noting.{IsKeptStill, HasMoreCells, mapped_pages}}
 use Rattle.mm_config.specs.Keeping.{IsConfigurationOf, IsKeyOf, IsMachineAt, HasNamesOf, Stands}
 use Rattle.mm_config.specs.Reaching.{HasConfiguration, Reaches, HasPutCore, KeepsAll, HasReadSlots, HasReadQueues, HasReadOutputs, IsListed, Extends}
-use Rattle.mm_config.proofs.{Keys.key_tells, Staying.keys_stay, Revising.{LeadsTo, revised_is}}
+use Rattle.mm_config.proofs.{Keys.key_tells, Noted.still_more, Staying.{keys_stay, names_stay, rest_stays}, Revising.{LeadsTo, revised_is}}
 
 pub config_core : (i : Image) (s : State) → IsImage i → IsConfigurationOf i s → IsCore s.core
 config_core i s img h = core_of i s img h.state.state h.state.fits h.state.kept
@@ -205,3 +205,35 @@ module _ (wanted : Names) (c0 c1 c2 c3 : code.Configs) (r : Reaches wanted c0) (
     let short = output_short to aim x.group in
     (omega (arith, inside, groups), omega (arith, cut, both, all, short)))
     (outputs_in c3.revision) extended
+
+-- 4. All.
+
+module _ (c0 c1 c4 : code.Configs) (key : ℕ × ℕ) (h : HasConfiguration c0 key) (core : HasPutCore h.state.core c0 c1) (more : HasMoreCells c1.store c4.store)
+    (memory : c4.mem.memory ≡ h.state.memory) (uses : c4.mem.uses ≡ c1.mem.uses) (mapped : c4.mapped.items ≡ mapped_pages c4.mem.memory) (names : c4.names ≡ h.is.names) (rest : c4.rest ≡ key.1)
+    (others : c4 ≡ record c1 { mem = c4.mem; mapped = c4.mapped; store = c4.store; names = c4.names; rest = c4.rest; changed = c4.changed; changed_cells = c4.changed_cells }) where
+  stays : IsKeptStill c0.store c4.store
+  stays = subst (λ (k : Store). IsKeptStill k c4.store) (ap (λ (c : code.Configs). c.store) core.others) (still_more c1.store c4.store more)
+
+  depth_is : c4.depth ≡ c0.depth
+  depth_is = ap (λ (c : code.Configs). c.depth) others ∙ ap (λ (c : code.Configs). c.depth) core.others
+
+  pub put_stands : Stands h.image (record h.at { machine = h.state }) c4
+  put_stands =
+      stands_at h.image h.at h.state c0 c4 h.stands
+      (ap (λ (c : code.Configs). c.base) others ∙ ap (λ (c : code.Configs). c.base) core.others)
+      (ap (λ (c : code.Configs). map identity_of c.slots.items) others ∙ core.room)
+      depth_is
+      (ap (λ (c : code.Configs). c.kept) others ∙ ap (λ (c : code.Configs). c.kept) core.others)
+      stays
+      (record {
+        core = ap (λ (c : code.Configs). c.core) others ∙ core.is;
+        memory = memory;
+        config = h.config;
+        uses = subst (λ n. n < 2 ^ 61) (sym (uses ∙ ap (λ (c : code.Configs). c.mem.uses) core.others)) h.stands.machine.uses;
+        mapped = mapped ∙ ap mapped_pages memory;
+      })
+      (record {
+        names = subst (λ d. AreNamesOf h.image.slots d c4.store h.state c4.names) (sym depth_is)
+          (subst (AreNamesOf h.image.slots c0.depth c4.store h.state) (sym names) (names_stay c0.store c4.store stays h.image.slots c0.depth h.state h.is.names h.is.are));
+        rest = subst (λ (n : Names). IsRest c4.store.pairs n c4.rest) (sym names) (subst (IsRest c4.store.pairs h.is.names) (sym rest) (rest_stays c0.store c4.store stays h.is.names key.1 h.is.rest));
+      })
