@@ -71,6 +71,6 @@ module _ (i : Image) (v : Configs) (c : code.Configs) (once : IsKeptOnce c.store
         named = record { names = h.named.names; rest = h.named.rest };
         configs = each_push (IsConfigurationOf i) v.kept v.machine h.configs h.machine.config;
         each = subst (AllZip (IsKeyOf i.slots c.depth c.store) (v.kept ++ v.machine ∷ [])) (sym keys)
-          (zip_more (IsKeyOf i.slots c.depth c.store) v.kept c.kept.keys v.machine key_now h.each (record { names = c.names; are = h.named.names; slots = refl; rest = h.named.rest }));
+            (zip_more (IsKeyOf i.slots c.depth c.store) v.kept c.kept.keys v.machine key_now h.each (record { names = c.names; are = h.named.names; slots = refl; rest = h.named.rest }));
         few = omega (arith, long, few);
       })

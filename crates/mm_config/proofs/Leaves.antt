@@ -15,7 +15,7 @@ module _ {A : Type 0} (Is Now : A → ℕ → Type 0) (xs ys : List A) (d : A) (
   IsSettled k =
       ((k < length xs) × Now (slice_index_or ys k d) (leaf_at new depth tree k))
       ⊎ ((leaf_at new depth tree k ≡ leaf_at old depth was k)
-          × (k < length xs → (name : ℕ) → Is (slice_index_or xs k d) name → Now (slice_index_or ys k d) name))
+      × (k < length xs → (name : ℕ) → Is (slice_index_or xs k d) name → Now (slice_index_or ys k d) name))
 
   settled_at : (k : ℕ) → (k < length xs) ⊎ (length xs ≤ k) → IsSettled k → IsOrNone Now (slice_get ys k) (leaf_at new depth tree k)
   settled_at k (inl lt) (inl h) =

@@ -39,8 +39,11 @@ module _ (core now : Core) (old new : Store) (still : IsKeptStill old new) (was 
           → IsOutputName new (slice_index_or now.outputs k []) (leaf_at new.pairs 6 tree k) ⊎ ((k ≡ group → ⊥) × (leaf_at new.pairs 6 tree k ≡ leaf_at old.pairs 6 was k))
           → IsSettled (IsOutputName old) (IsOutputName new) core.outputs now.outputs [] old.pairs new.pairs 6 was tree of (same ∙ sym groups) notes.inner k
       by k (inl lt) (inl h) = inl (omega (arith, groups, lt), h)
-      by k (inl lt) (inr h) = inr (h.1, λ _ name is.
-        subst (λ bytes. IsOutputName new bytes name) (sym (left k lt h.0)) (output_stays old new still (slice_index_or core.outputs k []) name is))
+      by k (inl lt) (inr h) = inr (
+        h.1,
+        λ _ name is.
+            subst (λ bytes. IsOutputName new bytes name) (sym (left k lt h.0)) (output_stays old new still (slice_index_or core.outputs k []) name is),
+      )
       by k (inr high) h =
           let power : 2 ^ 6 ≤ k = omega (arith, high) in
           inr (past new.pairs 6 tree k power ∙ sym (past old.pairs 6 was k power), λ lt. absurd (omega (arith, groups, high, lt)))

@@ -106,19 +106,22 @@ module _ (base : List Slot) (core now : Core) (old new : Store) (still : IsKeptS
           zip_get base (slots_of core) k lt (omega (arith, lt, many, rows)) ∙ ap (λ s. (slice_index_or base k no_slot, s)) (slots_at core k (omega (arith, lt, many)))
 
       by : (k : ℕ) → ((k < length base) × IsSlotName new (slice_index_or base k no_slot) (slot_in now k) (leaf_at new.pairs depth tree k))
-              ⊎ ((Noted k → ⊥) × (leaf_at new.pairs depth tree k ≡ leaf_at old.pairs depth was k))
+          ⊎ ((Noted k → ⊥) × (leaf_at new.pairs depth tree k ≡ leaf_at old.pairs depth was k))
           → IsSettled (λ (x : Slot × Slot) name. IsSlotName old x.0 x.1 name) (λ (x : Slot × Slot) name. IsSlotName new x.0 x.1 name) (zip base (slots_of core)) (zip base (slots_of now)) (no_slot, no_slot)
-              old.pairs new.pairs depth was tree of (now_long ∙ sym was_long) notes.inner k
+          old.pairs new.pairs depth was tree of (now_long ∙ sym was_long) notes.inner k
       by k (inl h) =
           let lt = h.0 in
           inl (omega (arith, lt, was_long), subst (λ (x : Slot × Slot). IsSlotName new x.0 x.1 (leaf_at new.pairs depth tree k)) (sym (pair k lt)) h.1)
-      by k (inr h) = inr (h.1, λ lt name is.
-        let inside : k < length base = omega (arith, lt, was_long) in
-        let rows : k < length core.rows = omega (arith, inside, many) in
-        let named : IsSlotName old (slice_index_or base k no_slot) (slot_in core k) name = subst (λ (x : Slot × Slot). IsSlotName old x.0 x.1 name) (pair_was k inside) is in
-        let more = slot_stays old new still (slice_index_or base k no_slot) (slot_in core k) name named in
-        subst (λ (x : Slot × Slot). IsSlotName new x.0 x.1 name) (sym (pair k inside))
-          (subst (λ s. IsSlotName new (slice_index_or base k no_slot) s name) (sym (left k rows h.0)) more))
+      by k (inr h) = inr (
+        h.1,
+        λ lt name is.
+            let inside : k < length base = omega (arith, lt, was_long) in
+            let rows : k < length core.rows = omega (arith, inside, many) in
+            let named : IsSlotName old (slice_index_or base k no_slot) (slot_in core k) name = subst (λ (x : Slot × Slot). IsSlotName old x.0 x.1 name) (pair_was k inside) is in
+            let more = slot_stays old new still (slice_index_or base k no_slot) (slot_in core k) name named in
+            subst (λ (x : Slot × Slot). IsSlotName new x.0 x.1 name) (sym (pair k inside))
+            (subst (λ s. IsSlotName new (slice_index_or base k no_slot) s name) (sym (left k rows h.0)) more),
+      )
 
   -- names of queues likewise
   pub queues_settled : AreLeaves (λ (row : ThreadRow) name. IsQueueName old row.queue name) core.rows old.pairs depth was
@@ -130,9 +133,12 @@ module _ (base : List Slot) (core now : Core) (old new : Store) (still : IsKeptS
       old.pairs new.pairs depth was tree of same notes.inner (λ k. by k (notes.each k))
     where
       by : (k : ℕ) → ((k < length base) × IsQueueName new (queue_in now k) (leaf_at new.pairs depth tree k))
-              ⊎ ((Noted k → ⊥) × (leaf_at new.pairs depth tree k ≡ leaf_at old.pairs depth was k))
+          ⊎ ((Noted k → ⊥) × (leaf_at new.pairs depth tree k ≡ leaf_at old.pairs depth was k))
           → IsSettled (λ (row : ThreadRow) name. IsQueueName old row.queue name) (λ (row : ThreadRow) name. IsQueueName new row.queue name) core.rows now.rows no_row
-              old.pairs new.pairs depth was tree of same notes.inner k
+          old.pairs new.pairs depth was tree of same notes.inner k
       by k (inl h) = let lt = h.0 in inl (omega (arith, lt, many), h.1)
-      by k (inr h) = inr (h.1, λ lt name is.
-        subst (λ q. IsQueueName new q name) (sym (left k lt h.0 h.1)) (queue_stays old new still (queue_in core k) name is))
+      by k (inr h) = inr (
+        h.1,
+        λ lt name is.
+            subst (λ q. IsQueueName new q name) (sym (left k lt h.0 h.1)) (queue_stays old new still (queue_in core k) name is),
+      )

@@ -129,9 +129,9 @@ module _ (b : Before) (step : Step) (c : code.Configs) (t : HasTurned b step c) 
             slots_settled i.slots s.core bare c1.store c2.store slots.still c1.depth c1.names.slots c2.names.slots (λ k. (k ≡ at) ⊎ IsServedBy c1.base.items step.slot b.running k)
             base_many bare_rows names_1.slots
             (subst (λ (l : List Slot). NotesLeaves (λ k name. (k < length l) × IsSlotName c2.store (slice_index_or l k no_slot) (slot_in bare k) name)
-              (λ k. (k ≡ at) ⊎ IsServedBy c1.base.items step.slot b.running k) c1.store.pairs c1.depth c1.names.slots c2.store.pairs c2.names.slots) base_2
-              (subst (λ (core : Core). NotesLeaves (λ k name. (k < length c2.base.items) × IsSlotName c2.store (slice_index_or c2.base.items k no_slot) (slot_in core k) name)
-                (λ k. (k ≡ at) ⊎ IsServedBy c1.base.items step.slot b.running k) c1.store.pairs c1.depth c1.names.slots c2.store.pairs c2.names.slots) core_2 slots.leaves))
+            (λ k. (k ≡ at) ⊎ IsServedBy c1.base.items step.slot b.running k) c1.store.pairs c1.depth c1.names.slots c2.store.pairs c2.names.slots) base_2
+            (subst (λ (core : Core). NotesLeaves (λ k name. (k < length c2.base.items) × IsSlotName c2.store (slice_index_or c2.base.items k no_slot) (slot_in core k) name)
+            (λ k. (k ≡ at) ⊎ IsServedBy c1.base.items step.slot b.running k) c1.store.pairs c1.depth c1.names.slots c2.store.pairs c2.names.slots) core_2 slots.leaves))
             bare_slot
 
         pub queues_2 : AreLeaves (λ (row : ThreadRow) name. IsQueueName c2.store row.queue name) s.core.rows c2.store.pairs c2.depth c2.names.queues
@@ -164,22 +164,22 @@ module _ (b : Before) (step : Step) (c : code.Configs) (t : HasTurned b step c) 
               let there : (slot_in s.core at).number ≡ (turn_of s t.item).step.slot = ap (λ x. x.0) (sym (identity_in s.core later before after_core alike at first)) ∙ own in
               queue_bare later k (omega (arith, lt, rows_same))
               ∙ queue_stays_in s.core later before after_core alike c2.base.items at (turn_of s t.item).step.slot (turn_of s t.item).step.tick (ap (map identity_of) base_2 ∙ base_same) first there
-                (frame i s t.item t.stands.image config).queues k lt (λ h. none (inl (subst (λ (x : Step). IsFaultHandler c2.base.items x.tick at k) (sym t.step) h)))
-                (elim (cases_eq k at) [
-                  | inr ne ↦ inl ne
-                  | inl e ↦ elim (cases_eq c3.names.queues 0) [
-                    | inl zero ↦ inr (own_empty k lt zero same)
-                    | inr some ↦ absurd (none (inr (e, some)))
-                  ]
-                ])
+              (frame i s t.item t.stands.image config).queues k lt (λ h. none (inl (subst (λ (x : Step). IsFaultHandler c2.base.items x.tick at k) (sym t.step) h)))
+              (elim (cases_eq k at) [
+                | inr ne ↦ inl ne
+                | inl e ↦ elim (cases_eq c3.names.queues 0) [
+                  | inl zero ↦ inr (own_empty k lt zero same)
+                  | inr some ↦ absurd (none (inr (e, some)))
+                ]
+              ])
 
           pub queues_3 : AreLeaves (λ (row : ThreadRow) name. IsQueueName c3.store row.queue name) bare.rows c3.store.pairs c2.depth c3.names.queues
           queues_3 =
               queues_settled i.slots s.core bare c2.store c3.store queues.still c2.depth c2.names.queues c3.names.queues Due base_many bare_rows queues_2
               (subst (λ (l : List Slot). NotesLeaves (λ k name. (k < length l) × IsQueueName c3.store (queue_in bare k) name) Due c2.store.pairs c2.depth c2.names.queues c3.store.pairs c3.names.queues)
-                (ap (λ (x : code.Configs). x.base.items) queues.others ∙ base_2)
-                (subst (λ (core : Core). NotesLeaves (λ k name. (k < length c3.base.items) × IsQueueName c3.store (queue_in core k) name) Due c2.store.pairs c2.depth c2.names.queues c3.store.pairs c3.names.queues)
-                core_3 queues.leaves))
+              (ap (λ (x : code.Configs). x.base.items) queues.others ∙ base_2)
+              (subst (λ (core : Core). NotesLeaves (λ k name. (k < length c3.base.items) × IsQueueName c3.store (queue_in core k) name) Due c2.store.pairs c2.depth c2.names.queues c3.store.pairs c3.names.queues)
+              core_3 queues.leaves))
               bare_queue
 
           outputs_3 : AreLeaves (IsOutputName c3.store) s.core.outputs c3.store.pairs 6 c3.names.outputs
@@ -311,11 +311,11 @@ module _ (b : Before) (step : Step) (c : code.Configs) (t : HasTurned b step c) 
                 slots = subst (λ d. AreLeaves (λ (x : Slot × Slot) name. IsSlotName c6.store x.0 x.1 name) (zip i.slots (slots_of bare)) c6.store.pairs d c6.names.slots) (sym depth_1)
                     (subst (AreLeaves (λ (x : Slot × Slot) name. IsSlotName c6.store x.0 x.1 name) (zip i.slots (slots_of bare)) c6.store.pairs c1.depth) (sym slots_name)
                     (leaves_stay_named (λ (x : Slot × Slot) name. IsSlotName c2.store x.0 x.1 name) (λ (x : Slot × Slot) name. IsSlotName c6.store x.0 x.1 name)
-                      (λ x name. slot_stays c2.store c6.store later_than_2 x.0 x.1 name) (zip i.slots (slots_of bare)) c2.store.pairs c6.store.pairs later_than_2.pairs c1.depth c2.names.slots slots_2));
+                    (λ x name. slot_stays c2.store c6.store later_than_2 x.0 x.1 name) (zip i.slots (slots_of bare)) c2.store.pairs c6.store.pairs later_than_2.pairs c1.depth c2.names.slots slots_2));
                 queues = subst (λ d. AreLeaves (λ (row : ThreadRow) name. IsQueueName c6.store row.queue name) bare.rows c6.store.pairs d c6.names.queues) (sym depth_2)
                     (subst (AreLeaves (λ (row : ThreadRow) name. IsQueueName c6.store row.queue name) bare.rows c6.store.pairs c2.depth) (sym queues_name)
                     (leaves_stay_named (λ (row : ThreadRow) name. IsQueueName c3.store row.queue name) (λ (row : ThreadRow) name. IsQueueName c6.store row.queue name)
-                      (λ row name. queue_stays c3.store c6.store later_than_3 row.queue name) bare.rows c3.store.pairs c6.store.pairs later_than_3.pairs c2.depth c3.names.queues queues_3));
+                    (λ row name. queue_stays c3.store c6.store later_than_3 row.queue name) bare.rows c3.store.pairs c6.store.pairs later_than_3.pairs c2.depth c3.names.queues queues_3));
                 outputs = subst (AreLeaves (IsOutputName c6.store) bare.outputs c6.store.pairs 6) (sym outputs_name)
                     (leaves_stay_named (IsOutputName c4.store) (IsOutputName c6.store) (output_stays c4.store c6.store later_than_4) bare.outputs c4.store.pairs c6.store.pairs later_than_4.pairs 6 c4.names.outputs outputs_4);
                 memory = subst (λ (m : Memory). AreMemoryNames c6.store m c6.names) memory_now

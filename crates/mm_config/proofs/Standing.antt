@@ -165,13 +165,13 @@ module _ (wanted : Names) (c0 c1 c2 c3 : code.Configs) (r : Reaches wanted c0) (
     slots = slots_lead;
     queues = each_map Queued (λ (x : ℕ × List Event). x.1 ≡ queue_in to x.0) (λ x h. h.1) (queues_in c3.revision) queued;
     other_queues = λ k lt.
-    subst (λ (q : Vec (ℕ × Vec Event Global) Global). IsListed (λ (x : ℕ × List Event). x.0) k (map queue_in_place q.items) ⊎ (queue_in was k ≡ queue_in to k)) (sym three.queues)
-    (subst (λ (core : Core). IsListed (λ (x : ℕ × List Event). x.0) k (queues_in c2.revision) ⊎ (queue_in core k ≡ queue_in to k)) core_1
-    (two.rest k (subst (λ (core : Core). k < length core.rows) (sym core_1) lt)));
+        subst (λ (q : Vec (ℕ × Vec Event Global) Global). IsListed (λ (x : ℕ × List Event). x.0) k (map queue_in_place q.items) ⊎ (queue_in was k ≡ queue_in to k)) (sym three.queues)
+        (subst (λ (core : Core). IsListed (λ (x : ℕ × List Event). x.0) k (queues_in c2.revision) ⊎ (queue_in core k ≡ queue_in to k)) core_1
+        (two.rest k (subst (λ (core : Core). k < length core.rows) (sym core_1) lt)));
     outputs = extended;
     other_outputs = λ g lt.
-    subst (λ (core : Core). IsListed (λ (x : Extension). x.group) g (outputs_in c3.revision) ⊎ (output_of core g ≡ output_of to g)) core_2
-    (three.rest g (subst (λ (core : Core). g < length core.outputs) (sym core_2) lt));
+        subst (λ (core : Core). IsListed (λ (x : Extension). x.group) g (outputs_in c3.revision) ⊎ (output_of core g ≡ output_of to g)) core_2
+        (three.rest g (subst (λ (core : Core). g < length core.outputs) (sym core_2) lt));
   }
 
   pub core_is : revised c3.core (flags (length c3.slots.items) mask) c3.slots.items (queues_in c3.revision) (outputs_in c3.revision) ≡ to
@@ -191,20 +191,20 @@ module _ (wanted : Names) (c0 c1 c2 c3 : code.Configs) (r : Reaches wanted c0) (
 
   pub short_queues : AllByRecursion (λ (x : ℕ × List Event). (x.0 < length c3.slots.items) × (length x.1 ≤ 64)) (queues_in c3.revision)
   short_queues = each_map Queued (λ (x : ℕ × List Event). (x.0 < length c3.slots.items) × (length x.1 ≤ 64)) (λ x h.
-    let inside = h.0 in
-    (omega (arith, many, inside), subst (λ (q : List Event). length q ≤ 64) (sym h.1) (short_queue x.0 (omega (arith, as_many, inside)))))
-    (queues_in c3.revision) queued
+      let inside = h.0 in
+      (omega (arith, many, inside), subst (λ (q : List Event). length q ≤ 64) (sym h.1) (short_queue x.0 (omega (arith, as_many, inside)))))
+      (queues_in c3.revision) queued
 
   pub short_outputs : AllByRecursion (λ (x : Extension). (x.group < 64) × (x.kept + length x.bytes ≤ 65536)) (outputs_in c3.revision)
   short_outputs = each_map (Extends was to) (λ (x : Extension). (x.group < 64) × (x.kept + length x.bytes ≤ 65536)) (λ x e.
-    let inside = e.inside in
-    let groups = own.formed.outputs in
-    let cut : length (take x.kept (output_of was x.group)) ≡ x.kept = length-take-le x.kept (output_of was x.group) e.kept in
-    let both = length-append (take x.kept (output_of was x.group)) x.bytes in
-    let all = ap length e.is in
-    let short = output_short to aim x.group in
-    (omega (arith, inside, groups), omega (arith, cut, both, all, short)))
-    (outputs_in c3.revision) extended
+      let inside = e.inside in
+      let groups = own.formed.outputs in
+      let cut : length (take x.kept (output_of was x.group)) ≡ x.kept = length-take-le x.kept (output_of was x.group) e.kept in
+      let both = length-append (take x.kept (output_of was x.group)) x.bytes in
+      let all = ap length e.is in
+      let short = output_short to aim x.group in
+      (omega (arith, inside, groups), omega (arith, cut, both, all, short)))
+      (outputs_in c3.revision) extended
 
 -- 4. All.
 
@@ -234,6 +234,6 @@ module _ (c0 c1 c4 : code.Configs) (key : ℕ × ℕ) (h : HasConfiguration c0 k
       })
       (record {
         names = subst (λ d. AreNamesOf h.image.slots d c4.store h.state c4.names) (sym depth_is)
-          (subst (AreNamesOf h.image.slots c0.depth c4.store h.state) (sym names) (names_stay c0.store c4.store stays h.image.slots c0.depth h.state h.is.names h.is.are));
+            (subst (AreNamesOf h.image.slots c0.depth c4.store h.state) (sym names) (names_stay c0.store c4.store stays h.image.slots c0.depth h.state h.is.names h.is.are));
         rest = subst (λ (n : Names). IsRest c4.store.pairs n c4.rest) (sym names) (subst (IsRest c4.store.pairs h.is.names) (sym rest) (rest_stays c0.store c4.store stays h.is.names key.1 h.is.rest));
       })

@@ -21,8 +21,8 @@ leaves_stay_named Is Now f xs old new grown depth tree h = record {
   inner = tree_stays old new grown depth tree h.inner;
   wide = h.wide;
   each = λ at.
-  or_none Is Now f (slice_get xs at) (leaf_at new depth tree at)
-  (subst (IsOrNone Is (slice_get xs at)) (sym (leaf_stays old new grown depth tree h.inner at)) (h.each at));
+      or_none Is Now f (slice_get xs at) (leaf_at new depth tree at)
+      (subst (IsOrNone Is (slice_get xs at)) (sym (leaf_stays old new grown depth tree h.inner at)) (h.each at));
 }
 
 module _ (old new : Store) (still : IsKeptStill old new) where
@@ -61,24 +61,24 @@ module _ (old new : Store) (still : IsKeptStill old new) where
         ∙ elim (place_stays old.pages new.pages number still.pages) [
           | inl e ↦ ap (leaf_at old.pairs n.height n.pages) e
           | inr h ↦
-            let none = h.0 in
-            t.inside (page_place new.pages number) h.1 ∙ sym (t.inside (page_place old.pages number) (omega (arith, none)))
+              let none = h.0 in
+              t.inside (page_place new.pages number) h.1 ∙ sym (t.inside (page_place old.pages number) (omega (arith, none)))
         ]
 
   pub memory_stays : (m : Memory) (n : Names) → AreMemoryNames old m n → AreMemoryNames new m n
   memory_stays m n h = record {
     tree = pages_stay n h.tree;
     pages = λ number.
-    or_none (IsPageName old) (IsPageName new) (page_stays old new still) (page_at m number) (page_name new n number)
-    (subst (IsOrNone (IsPageName old) (page_at m number)) (sym (page_is n h.tree number)) (h.pages number));
+        or_none (IsPageName old) (IsPageName new) (page_stays old new still) (page_at m number) (page_name new n number)
+        (subst (IsOrNone (IsPageName old) (page_at m number)) (sym (page_is n h.tree number)) (h.pages number));
   }
 
   pub names_stay : (base : List Slot) (depth : ℕ) (s : State) (n : Names) → AreNamesOf base depth old s n → AreNamesOf base depth new s n
   names_stay base depth s n h = record {
     slots = leaves_stay_named (λ (x : Slot × Slot) name. IsSlotName old x.0 x.1 name) (λ (x : Slot × Slot) name. IsSlotName new x.0 x.1 name)
-      (λ x name. slot_stays x.0 x.1 name) (zip base (slots_of s.core)) old.pairs new.pairs still.pairs depth n.slots h.slots;
+        (λ x name. slot_stays x.0 x.1 name) (zip base (slots_of s.core)) old.pairs new.pairs still.pairs depth n.slots h.slots;
     queues = leaves_stay_named (λ (row : ThreadRow) name. IsQueueName old row.queue name) (λ (row : ThreadRow) name. IsQueueName new row.queue name)
-      (λ row name. queue_stays row.queue name) s.core.rows old.pairs new.pairs still.pairs depth n.queues h.queues;
+        (λ row name. queue_stays row.queue name) s.core.rows old.pairs new.pairs still.pairs depth n.queues h.queues;
     outputs = leaves_stay_named (IsOutputName old) (IsOutputName new) output_stays s.core.outputs old.pairs new.pairs still.pairs 6 n.outputs h.outputs;
     memory = memory_stays s.memory n h.memory;
   }

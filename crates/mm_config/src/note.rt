@@ -104,10 +104,10 @@ impl Configs {
         self.numbers.clear();
         put_slot(&mut self.numbers, &self.base[at], self.core.nth(at))?;
         let name = self.store.lists.name(self.alloc, &self.numbers)?;
-        self.names.slots =
-            self.store
-                .pairs
-                .with_leaf(self.names.slots, self.depth, at as u64, name)?;
+        self.names.slots = self
+            .store
+            .pairs
+            .with_leaf(self.names.slots, self.depth, at as u64, name)?;
         Ok(())
     }
 
@@ -175,10 +175,10 @@ impl Configs {
         self.numbers.clear();
         put_events(&mut self.numbers, self.core.queue(self.base[at].number))?;
         let name = self.store.lists.name(self.alloc, &self.numbers)?;
-        self.names.queues =
-            self.store
-                .pairs
-                .with_leaf(self.names.queues, self.depth, at as u64, name)?;
+        self.names.queues = self
+            .store
+            .pairs
+            .with_leaf(self.names.queues, self.depth, at as u64, name)?;
         Ok(())
     }
 
@@ -195,10 +195,10 @@ impl Configs {
         let place = u64::from(group);
         let shorter = self.store.pairs.leaf(self.names.outputs, GROUPS, place);
         let name = self.store.outputs.join(shorter, byte + 1)?;
-        self.names.outputs =
-            self.store
-                .pairs
-                .with_leaf(self.names.outputs, GROUPS, place, name)?;
+        self.names.outputs = self
+            .store
+            .pairs
+            .with_leaf(self.names.outputs, GROUPS, place, name)?;
         Ok(())
     }
 
@@ -208,7 +208,12 @@ impl Configs {
         ensures { OnOk result (NotesMemory self.old self.new) }
     {
         if self.mem.pages() != pages {
-            note_page(&mut self.store, &mut self.names, &mut self.mapped, &self.mem)?;
+            note_page(
+                &mut self.store,
+                &mut self.names,
+                &mut self.mapped,
+                &self.mem,
+            )?;
         }
         match written(step.touched) {
             Some(word) => note_cell(&mut self.store, &mut self.names, &self.mem, word),

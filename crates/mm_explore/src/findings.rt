@@ -129,7 +129,15 @@ impl Findings {
         let mut faults = Vec::new(alloc);
         list_faults(alloc, &mut faults, &self.faults, img.slots(), found)?;
         let mut outcomes = Vec::new(alloc);
-        put_outcomes(alloc, &mut outcomes, &self.ends, img, groups, found, configs)?;
+        put_outcomes(
+            alloc,
+            &mut outcomes,
+            &self.ends,
+            img,
+            groups,
+            found,
+            configs,
+        )?;
         Ok(Explored {
             count: found.len() as u64,
             all,

@@ -134,14 +134,16 @@ pub fn explore(alloc: Global, img: &Image, states: u32) -> Result<Explored, NoMe
     let mut search = Search::new(alloc, img, states)?;
     search.run(alloc, img)?;
     search.note_endless(alloc, img)?;
-    Ok(search.findings.explored(
-        alloc,
-        img,
-        &search.groups,
-        &search.found,
-        &mut search.configs,
-        search.all,
-    )?)
+    Ok(
+        search.findings.explored(
+            alloc,
+            img,
+            &search.groups,
+            &search.found,
+            &mut search.configs,
+            search.all,
+        )?,
+    )
 }
 
 impl Search {
