@@ -42,6 +42,15 @@ small_in (e ∷ es) h q some = elim (cases_eq q e.0) [
 
 -- 2. One change.
 
+-- a change, and the page that it is of
+pub record PageOf (k : Store) (was names : List ℕ) (e : ℕ × ℕ) : Type 0 where
+  pub within : e.0 < length k.pages
+  pub inside : e.0 < length names
+  pub place : page_place k.pages (slice_index_or k.pages e.0 0) ≡ e.0
+  pub small : slice_index_or k.pages e.0 0 < 2 ^ 42
+  pub name : e.1 ≡ slice_index_or names e.0 0
+  pub differs : slice_index_or was e.0 0 ≢ slice_index_or names e.0 0
+
 module _ (k : Store) (c : Changes) (old : Plain) (can : CanPut k old c) where
   abbrev was : List ℕ
   was = old_pages k c
@@ -52,16 +61,7 @@ module _ (k : Store) (c : Changes) (old : Plain) (can : CanPut k old c) where
   long : length was ≡ length names
   long = length_leaves k.pairs c.height c.before ∙ sym (length_leaves k.pairs c.height c.after)
 
-  -- a change, and the page that it is of
-  pub record PageOf (e : ℕ × ℕ) : Type 0 where
-    pub within : e.0 < length k.pages
-    pub inside : e.0 < length names
-    pub place : page_place k.pages (slice_index_or k.pages e.0 0) ≡ e.0
-    pub small : slice_index_or k.pages e.0 0 < 2 ^ 42
-    pub name : e.1 ≡ slice_index_or names e.0 0
-    pub differs : slice_index_or was e.0 0 ≢ slice_index_or names e.0 0
-
-  pub page_of_change : (j : ℕ) (e : ℕ × ℕ) → slice_get c.list.now j ≡ Some e → PageOf e
+  pub page_of_change : (j : ℕ) (e : ℕ × ℕ) → slice_get c.list.now j ≡ Some e → PageOf k was names e
   page_of_change j e got =
       let change = change_is 0 was names long j e (sym (ap (λ l. slice_get l j) can.list) ∙ got) in
       let none : 0 + change.place ≡ change.place = omega arith in
@@ -136,7 +136,7 @@ module _ (k : Store) (c : Changes) (old : Plain) (can : CanPut k old c) where
           number : ℕ
           number = slice_index_or k.pages e.0 0
 
-          page : PageOf e
+          page : PageOf k was names e
           page = page_of_change n e got
 
           here : slice_index_or (slice_set so.now e.0 e.1) e.0 0 ≡ e.1

@@ -16,6 +16,7 @@ use mm_pairs::Pairs;
 use std::alloc::AllocError;
 
 /// Trees of pages, and the places at which the second differs from the first, each with its page there.
+#[derive(Drop)]
 pub(crate) struct Changes<'a> {
     before: u32,
     after: u32,
