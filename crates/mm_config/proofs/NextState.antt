@@ -17,7 +17,7 @@ words_bare (row ∷ rows) h = (
   words_bare rows h.1,
 )
 
-identities_bare : (rows : List ThreadRow) → map identity_of (map (λ (row : ThreadRow). row.slot) (map uncounted_row rows)) ≡ map identity_of (map (λ (row : ThreadRow). row.slot) rows)
+pub identities_bare : (rows : List ThreadRow) → map identity_of (map (λ (row : ThreadRow). row.slot) (map uncounted_row rows)) ≡ map identity_of (map (λ (row : ThreadRow). row.slot) rows)
 identities_bare [] = refl
 identities_bare (row ∷ rows) = ap (λ l. identity_of row.slot ∷ l) (identities_bare rows)
 

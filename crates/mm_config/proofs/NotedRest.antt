@@ -11,7 +11,7 @@ use Rattle.mm_config.specs.{Naming.{AreLeaves, AreMemoryNames, IsOrNone, IsOutpu
 use Rattle.mm_config.proofs.{Leaves.{settled, IsSettled}, PageTrees.past, Staying.output_stays}
 
 -- the last byte of an output of bytes
-last_byte : (all bytes : List ℕ) (byte : ℕ) → AllByRecursion (λ b. b < 256) all → all ≡ bytes ++ byte ∷ [] → byte < 256
+pub last_byte : (all bytes : List ℕ) (byte : ℕ) → AllByRecursion (λ b. b < 256) all → all ≡ bytes ++ byte ∷ [] → byte < 256
 last_byte all bytes byte h e = by bytes (subst (AllByRecursion (λ b. b < 256)) e h)
   where
     by : (bytes : List ℕ) → AllByRecursion (λ b. b < 256) (bytes ++ byte ∷ []) → byte < 256

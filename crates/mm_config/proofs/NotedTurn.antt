@@ -67,7 +67,7 @@ zip_get (x ∷ xs) [] k lx ly = absurd (omega (arith, ly))
 zip_get (x ∷ xs) (y ∷ ys) zero lx ly = refl
 zip_get (x ∷ xs) (y ∷ ys) (suc k) lx ly = zip_get xs ys k (omega (arith, lx)) (omega (arith, ly))
 
-zip_long : (xs ys : List Slot) → length xs ≡ length ys → length (zip xs ys) ≡ length xs
+pub zip_long : (xs ys : List Slot) → length xs ≡ length ys → length (zip xs ys) ≡ length xs
 zip_long [] ys e = refl
 zip_long (x ∷ xs) [] e = absurd (omega (arith, e))
 zip_long (x ∷ xs) (y ∷ ys) e = ap suc (zip_long xs ys (omega (arith, e)))
@@ -75,7 +75,7 @@ zip_long (x ∷ xs) (y ∷ ys) e = ap suc (zip_long xs ys (omega (arith, e)))
 slots_at : (core : Core) (k : ℕ) → k < length core.rows → slice_index_or (slots_of core) k no_slot ≡ slot_in core k
 slots_at core k lt = get_or-map (λ (row : ThreadRow). row.slot) core.rows k no_row no_slot lt
 
-slots_long : (core : Core) → length (slots_of core) ≡ length core.rows
+pub slots_long : (core : Core) → length (slots_of core) ≡ length core.rows
 slots_long core = length-map core.rows (λ (row : ThreadRow). row.slot)
 
 module _ (base : List Slot) (core now : Core) (old new : Store) (still : IsKeptStill old new) (depth was tree : ℕ) (Noted : ℕ → Type 0)

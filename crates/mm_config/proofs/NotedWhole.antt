@@ -1,19 +1,21 @@
 -- A machine stands at the configuration after a turn of which all was noted.
-use Rattle.std.proofs.Common.{◌≡◌, ◌≢◌, ◌⊎◌, inl, inr, ℕ, ◌<◌, ◌≤◌, ◌^◌, Option, Some, List, [], ◌∷◌, map, length, slice_index_or, refl, sym, ap, ◌∙◌, subst, arith}
+use Rattle.std.proofs.Common.{◌≡◌, ◌≢◌, ◌⊎◌, inl, inr, ℕ, ◌<◌, ◌≤◌, ◌^◌, Option, Some, List, [], ◌∷◌, ◌++◌, ◌%◌, map, length, slice_index_or, refl, sym, ap, ◌∙◌, subst, arith}
 use Rattle.std.proofs.lemmas.{Bool.cases_eq, List.{length-map, get_or-map}, Option.slice_get-get_or}
-use Rattle.std.specs.Prelude.{zip, IsBitSet, IsSomeAnd, ◌↔◌}
+use Rattle.std.specs.{Prelude.{zip, IfSome, IsBitSet, IsSomeAnd, ◌↔◌}, List.AllByRecursion}
 use Rattle.mm_model.specs.declared.{event.Event.Event, step.Step.Step, slot.SlotState.TheVariants.Running}
-use Rattle.mm_model.specs.{Slot.Slot, Image.Image, Memory.Memory, State.{ThreadRow, Core, State, slot_at, output_of}, Run.{turn_of, after}, Fits.{slots_of, identity_of, IsCore}}
+use Rattle.mm_model.specs.{Slot.Slot, Image.Image, Memory.Memory, State.{ThreadRow, Core, State, slot_at, output_of}, Run.{turn_of, after}, Fits.{slots_of, identity_of, IsCore, IsOfVersion}}
+use Rattle.mm_model.proofs.{CoreRows.{each_get, slot_has, slot_limit-few}, Fitted.paged_of}
+use Rattle.mm_pairs.specs.Trees.{IsTree}
 use Rattle.mm_thread.specs.SlotIndices.{no_slot, no_row, slot_in, queue_in, with_slot}
 use Rattle.mm_thread.proofs.{Index.slot_found, Revised.slots_many, RowIndex.apart_in}
 use Rattle.mm_config.specs.declared.configs.Configs as code
 use Rattle.mm_config.specs.declared.{note.Before.Before, store.Store.Store, names.Names.Names}
 use Rattle.mm_config.specs.{Configurations.{uncounted_slot, uncounted_row, uncounted, configuration}, Machines.Configs, Forms.queue_form}
 use Rattle.mm_config.specs.Naming.{AreNamesOf, AreMemoryNames, AreLeaves, IsOrNone, IsRest, IsSlotName, IsQueueName, IsOutputName, leaf_at}
-use Rattle.mm_laws.specs.Frames.{OutputLeft}
-use Rattle.mm_config.specs.{Noting.{IsKeptStill, mapped_pages}, Keeping.{Stands, IsConfigurationOf}, Turning.{HasTurned, NotesLeaves, NotesSlots, NotesQueues, NotesOutputs, NotesMemory, IsServedBy, IsFaultHandler}}
-use Rattle.mm_config.proofs.{NextState.{core_before, core_after, frame, same_identities, uncounted_core, bare_core_whole, next_config}, NotedTurn.{slots_settled, queues_settled}}
-use Rattle.mm_config.proofs.{Staying.{leaves_stay_named, slot_stays, queue_stays, output_stays, memory_stays}, PageTrees.none_at, Noted.twice, NotedRest.outputs_settled}
+use Rattle.mm_laws.specs.Frames.{OutputLeft, MemoryLeft}
+use Rattle.mm_config.specs.{Noting.{IsKeptStill, mapped_pages}, Keeping.{Stands, IsConfigurationOf}, Turning.{HasTurned, HasTrees, WasOutput, WasMemory, NotesLeaves, NotesSlots, NotesQueues, NotesOutputs, NotesMemory, IsServedBy, IsFaultHandler}}
+use Rattle.mm_config.proofs.{NextState.{core_before, core_after, frame, same_identities, uncounted_core, bare_core_whole, next_config, identities_bare}, NotedTurn.{turn_slot, zip_long, slots_long, slots_settled, queues_settled}}
+use Rattle.mm_config.proofs.{Staying.{leaves_stay_named, slot_stays, queue_stays, output_stays, memory_stays}, PageTrees.none_at, Noted.twice, NotedRest.{last_byte, output_named, outputs_settled, memory_alike}, States.after_state_of}
 use Rattle.mm_config.proofs.{Standing.stands_at, TurnNames.{base_identity, identity_in, slot_stays_in, queue_stays_in}}
 
 -- what no note changes
@@ -68,12 +70,21 @@ module _ (b : Before) (step : Step) (c : code.Configs) (t : HasTurned b step c) 
   after_core : IsCore later
   after_core = core_after i s t.item t.stands.image config
 
+  later_bytes : (g : ℕ) → g < 64 → AllByRecursion (λ byte. byte < 256) (output_of later g)
+  unfolding output_of after
+  later_bytes g lt =
+      each_get (λ output. AllByRecursion (λ byte. byte < 256) output) later.outputs g [] (after_state_of i s t.item t.stands.image config.state).bytes
+      (let groups = after_core.formed.outputs in omega (arith, groups, lt))
+
   bare_rows : length bare.rows ≡ length s.core.rows
   bare_rows = length-map later.rows uncounted_row ∙ rows_same
 
   bare_before : uncounted s.core ≡ s.core
   unfolding configuration
   bare_before = ap (λ (x : State). x.core) config.bare
+
+  bare_same : map identity_of (slots_of bare) ≡ map identity_of (slots_of s.core)
+  bare_same = identities_bare later.rows ∙ same_identities i s t.item t.stands.image config
 
   module _ (at : ℕ) (within : at < length c.core.rows) (number : (slot_in c.core at).number ≡ step.slot) where
     inside : at < length later.rows
@@ -102,6 +113,23 @@ module _ (b : Before) (step : Step) (c : code.Configs) (t : HasTurned b step c) 
 
       pub base_1 : c1.base.items ≡ i.slots
       base_1 = ap (λ (x : code.Configs). x.base.items) rest_1 ∙ t.stands.base
+
+      -- there is a leaf for each slot
+      long_base : length c1.base.items ≤ 2 ^ c1.depth
+      long_base =
+          let long = ap length base_1 in
+          let pairs = zip_long i.slots (slots_of s.core) (base_many ∙ sym (slots_long s.core)) in
+          let wide = names_1.slots.wide in
+          omega (arith, long, pairs, wide)
+
+      pub trees_1 : HasTrees c1
+      trees_1 = record {
+        depth = subst (λ d. d ≤ 6) (sym (ap (λ (x : code.Configs). x.depth) rest_1)) t.stands.depth;
+        wide = long_base;
+        same = ap (map identity_of) base_1 ∙ base_same ∙ sym bare_same ∙ ap (λ (k : Core). map identity_of (slots_of k)) (sym core_1);
+        slots = names_1.slots.inner;
+        queues = names_1.queues.inner;
+      }
 
       -- the slots
       module _ (c2 : code.Configs) (slots : NotesSlots (λ k. (k ≡ at) ⊎ IsServedBy c1.base.items step.slot b.running k) c1 c2) where
@@ -139,6 +167,16 @@ module _ (b : Before) (step : Step) (c : code.Configs) (t : HasTurned b step c) 
             subst (λ (x : code.Configs). AreLeaves (λ (row : ThreadRow) name. IsQueueName c2.store row.queue name) s.core.rows c2.store.pairs x.depth x.names.queues) (sym slots.others)
             (leaves_stay_named (λ (row : ThreadRow) name. IsQueueName c1.store row.queue name) (λ (row : ThreadRow) name. IsQueueName c2.store row.queue name)
             (λ row name. queue_stays c1.store c2.store slots.still row.queue name) s.core.rows c1.store.pairs c2.store.pairs slots.still.pairs c1.depth c1.names.queues names_1.queues)
+
+        pub trees_2 : HasTrees c2
+        trees_2 = record {
+          depth = subst (λ d. d ≤ 6) (sym (ap (λ (x : code.Configs). x.depth) slots.others)) trees_1.depth;
+          wide = subst (λ d. length c2.base.items ≤ 2 ^ d) (sym (ap (λ (x : code.Configs). x.depth) slots.others))
+              (subst (λ (l : List Slot). length l ≤ 2 ^ c1.depth) (base_1 ∙ sym base_2) long_base);
+          same = ap (map identity_of) base_2 ∙ base_same ∙ sym bare_same ∙ ap (λ (k : Core). map identity_of (slots_of k)) (sym core_2);
+          slots = subst (λ d. IsTree c2.store.pairs d c2.names.slots) (sym (ap (λ (x : code.Configs). x.depth) slots.others)) slots.leaves.inner;
+          queues = queues_2.inner;
+        }
 
         -- the queues
         module _ (c3 : code.Configs) (queues : NotesQueues (λ k. IsFaultHandler c2.base.items step.tick at k ⊎ ((k ≡ at) × (c3.names.queues ≢ 0))) c2 c3) where
@@ -214,6 +252,44 @@ module _ (b : Before) (step : Step) (c : code.Configs) (t : HasTurned b step c) 
                   let base = base_identity c3.base.items s.core (ap (map identity_of) base_3 ∙ base_same) at first in
                   absurd (ne (sym h.group ∙ ap (λ (x : Slot). x.group) one ∙ sym (ap (λ x. x.1) base)))
 
+          group_is : group ≡ (slot_in s.core at).group
+          group_is =
+              let first : at < length s.core.rows = omega (arith, inside, rows_same) in
+              let base_3 : c3.base.items ≡ i.slots = ap (λ (x : code.Configs). x.base.items) queues.others ∙ base_2 in
+              ap (λ x. x.1) (base_identity c3.base.items s.core (ap (map identity_of) base_3 ∙ base_same) at first)
+
+          pub was_output : WasOutput group b.put_out c3
+          unfolding output_of
+          was_output =
+              let first : at < length s.core.rows = omega (arith, inside, rows_same) in
+              let there : (slot_in s.core at).number ≡ (turn_of s t.item).step.slot =
+              ap (λ x. x.0) (sym (identity_in s.core later before after_core (same_identities i s t.item t.stands.image config) at first)) ∙ own in
+              let here : slot_at s.core (turn_of s t.item).step.slot ≡ Some (slot_in s.core at) = ap (slot_at s.core) (sym there) ∙ slot_found s.core (apart_in s.core before) at first in
+              let version = slot_has (IsOfVersion 2) s.core (turn_of s t.item).step.slot (slot_in s.core at) before.numbers here in
+              let below = version.group in
+              let low = version.number in
+              let few = slot_limit-few 2 in
+              let small : group < 64 = omega (arith, group_is, below, few) in
+              let item : (turn_of s t.item).step.slot ≡ t.item % 128 = turn_slot s.core s.memory t.item t.byte (slot_in s.core at) (omega (arith, low, few)) here in
+              let length_was : b.put_out ≡ length (output_of s.core (slot_in s.core at).group) =
+              subst (λ (o : Option Slot). IfSome o (λ x. b.put_out ≡ length (output_of s.core x.group))) (ap (slot_at s.core) (sym item) ∙ here)
+              (subst (λ (core : Core). IfSome (slot_at core (t.item % 128)) (λ x. b.put_out ≡ length (output_of core x.group))) t.stands.machine.core t.before.put_out) in
+              record {
+                bytes = output_of s.core group;
+                named = output_named c3.store s.core c3.names.outputs before.formed.outputs outputs_3 group small;
+                inner = outputs_3.inner;
+                long = length_was ∙ ap (λ g. length (output_of s.core g)) (sym group_is);
+                small = small;
+                now = subst (λ (core : Core). (output_of core group ≡ output_of s.core group) ⊎ ((byte : ℕ) × (byte < 256) × (output_of core group ≡ output_of s.core group ++ byte ∷ []))) (sym core_3)
+                    (put_now small ((frame i s t.item t.stands.image config).outputs group));
+              }
+            where
+              put_now : group < 64 → OutputLeft s.core later (turn_of s t.item).step.slot group
+                  → (output_of later group ≡ output_of s.core group) ⊎ ((byte : ℕ) × (byte < 256) × (output_of later group ≡ output_of s.core group ++ byte ∷ []))
+              put_now small (OutputLeft.Same e) = inl e
+              put_now small (OutputLeft.Put h) =
+                  inr (h.byte, last_byte (output_of later group) (output_of s.core group) h.byte (later_bytes group small) h.is, h.is)
+
           -- the outputs
           module _ (c4 : code.Configs) (outputs : NotesOutputs (λ g. g ≡ group) c3 c4) where
             core_4 : c4.core ≡ bare
@@ -225,6 +301,27 @@ module _ (b : Before) (step : Step) (c : code.Configs) (t : HasTurned b step c) 
                 (subst (λ (core : Core). NotesLeaves (λ g name. IsOutputName c4.store (output_of core g) name) (λ g. g ≡ group) c3.store.pairs 6 c3.names.outputs c4.store.pairs c4.names.outputs)
                 core_4 outputs.leaves)
                 bare_output
+
+            pub was_memory : WasMemory step.touched b.pages c4
+            was_memory =
+                let still = twice c1.store c2.store c4.store slots.still (twice c2.store c3.store c4.store queues.still outputs.still) in
+                let mem : c4.mem ≡ c.mem =
+                ap (λ (x : code.Configs). x.mem) outputs.others ∙ ap (λ (x : code.Configs). x.mem) queues.others ∙ ap (λ (x : code.Configs). x.mem) slots.others ∙ ap (λ (x : code.Configs). x.mem) one in
+                let mapped : c4.mapped ≡ t.was.mapped =
+                ap (λ (x : code.Configs). x.mapped) outputs.others ∙ ap (λ (x : code.Configs). x.mapped) queues.others ∙ ap (λ (x : code.Configs). x.mapped) slots.others
+                ∙ ap (λ (x : code.Configs). x.mapped) rest_1 in
+                record {
+                  memory = s.memory;
+                  left = subst (λ (m : Memory). MemoryLeft s.memory m step.touched) (sym (ap (λ x. x.memory) mem ∙ t.memory))
+                      (subst (λ (x : Step). MemoryLeft s.memory (turn_of s t.item).memory x.touched) (sym t.step) (frame i s t.item t.stands.image config).memory);
+                  whole = paged_of i s config.state.state config.state.fits;
+                  names = memory_alike c4.store s.memory c1.names c4.names
+                      (ap (λ (x : code.Configs). x.names.height) outputs.others ∙ ap (λ (x : code.Configs). x.names.height) queues.others ∙ ap (λ (x : code.Configs). x.names.height) slots.others)
+                      (ap (λ (x : code.Configs). x.names.pages) outputs.others ∙ ap (λ (x : code.Configs). x.names.pages) queues.others ∙ ap (λ (x : code.Configs). x.names.pages) slots.others)
+                      (memory_stays c1.store c4.store still s.memory c1.names names_1.memory);
+                  mapped = ap (λ x. x.items) mapped ∙ t.stands.machine.mapped;
+                  count = t.before.pages ∙ ap (λ (m : Memory). length m.pages) t.stands.machine.memory;
+                }
 
             -- all
             module _ (c5 c6 : code.Configs) (memory : NotesMemory c4 c5) (last : c6 ≡ record c5 { store = c6.store; rest = c6.rest }) (more : IsKeptStill c5.store c6.store)
