@@ -16,6 +16,7 @@ pub mod NextState
 pub mod OwnCells
 pub mod NotedRest
 pub mod NotedWhole
+pub mod ReadSlots
 pub mod Revising
 pub mod Turned
 pub mod CellForms

@@ -61,7 +61,7 @@ module _ (core : Core) (m : Memory) (n : ℕ) (byte : n < 256) where
 
 -- 2. Slots by their indices.
 
-zip_get : (xs ys : List Slot) (k : ℕ) → k < length xs → k < length ys → slice_index_or (zip xs ys) k (no_slot, no_slot) ≡ (slice_index_or xs k no_slot, slice_index_or ys k no_slot)
+pub zip_get : (xs ys : List Slot) (k : ℕ) → k < length xs → k < length ys → slice_index_or (zip xs ys) k (no_slot, no_slot) ≡ (slice_index_or xs k no_slot, slice_index_or ys k no_slot)
 zip_get [] ys k lx ly = absurd (omega (arith, lx))
 zip_get (x ∷ xs) [] k lx ly = absurd (omega (arith, ly))
 zip_get (x ∷ xs) (y ∷ ys) zero lx ly = refl
@@ -72,7 +72,7 @@ zip_long [] ys e = refl
 zip_long (x ∷ xs) [] e = absurd (omega (arith, e))
 zip_long (x ∷ xs) (y ∷ ys) e = ap suc (zip_long xs ys (omega (arith, e)))
 
-slots_at : (core : Core) (k : ℕ) → k < length core.rows → slice_index_or (slots_of core) k no_slot ≡ slot_in core k
+pub slots_at : (core : Core) (k : ℕ) → k < length core.rows → slice_index_or (slots_of core) k no_slot ≡ slot_in core k
 slots_at core k lt = get_or-map (λ (row : ThreadRow). row.slot) core.rows k no_row no_slot lt
 
 pub slots_long : (core : Core) → length (slots_of core) ≡ length core.rows

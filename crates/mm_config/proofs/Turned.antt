@@ -19,7 +19,7 @@ bare_rows (row ∷ rows) e =
     let rest : map uncounted_row rows ≡ rows = cc in
     (ap (λ (r : ThreadRow). r.slot.turns) (sym first), bare_rows rows rest)
 
-bare_core : (s : State) → configuration s ≡ s → uncounted s.core ≡ s.core
+pub bare_core : (s : State) → configuration s ≡ s → uncounted s.core ≡ s.core
 unfolding configuration
 bare_core s e = ap (λ (x : State). x.core) e
 
