@@ -148,31 +148,28 @@ module _ (core : Core) (old : code.Configs) (few : length old.base.items ≤ 64)
     others = others ∙ ap (λ (c : code.Configs). record c { slots = next.slots; revision = next.revision; changed = next.changed }) so.others;
   }
     where
-      abbrev count : ℕ
-      count = length old.base.items
+      set : flags (length old.base.items) (bit_or mask (1 * 2 ^ e.0 % 2 ^ 64)) ≡ slice_set (flags (length old.base.items) mask) e.0 true
+      set = flags_set (length old.base.items) mask e.0 few lt
 
-      set : flags count (bit_or mask (1 * 2 ^ e.0 % 2 ^ 64)) ≡ slice_set (flags count mask) e.0 true
-      set = flags_set count mask e.0 few lt
-
-      by : (k : ℕ) → k < count → (k ≡ e.0) ⊎ (k ≡ e.0 → ⊥)
-          → ((slice_index_or (flags count mask) k false ≡ true) × (slice_index_or now.slots.items k no_slot ≡ slot_in core k))
-            ⊎ ((slice_index_or (flags count mask) k false ≡ false) × ((j : ℕ) (f : ℕ × ℕ) → j < n → slice_get now.changed.items j ≡ Some f → f.0 ≡ k → ⊥))
-          → ((slice_index_or (flags count (bit_or mask (1 * 2 ^ e.0 % 2 ^ 64))) k false ≡ true) × (slice_index_or next.slots.items k no_slot ≡ slot_in core k))
-            ⊎ ((slice_index_or (flags count (bit_or mask (1 * 2 ^ e.0 % 2 ^ 64))) k false ≡ false) × ((j : ℕ) (f : ℕ × ℕ) → j < n + 1 → slice_get next.changed.items j ≡ Some f → f.0 ≡ k → ⊥))
+      by : (k : ℕ) → k < (length old.base.items) → (k ≡ e.0) ⊎ (k ≡ e.0 → ⊥)
+          → ((slice_index_or (flags (length old.base.items) mask) k false ≡ true) × (slice_index_or now.slots.items k no_slot ≡ slot_in core k))
+            ⊎ ((slice_index_or (flags (length old.base.items) mask) k false ≡ false) × ((j : ℕ) (f : ℕ × ℕ) → j < n → slice_get now.changed.items j ≡ Some f → f.0 ≡ k → ⊥))
+          → ((slice_index_or (flags (length old.base.items) (bit_or mask (1 * 2 ^ e.0 % 2 ^ 64))) k false ≡ true) × (slice_index_or next.slots.items k no_slot ≡ slot_in core k))
+            ⊎ ((slice_index_or (flags (length old.base.items) (bit_or mask (1 * 2 ^ e.0 % 2 ^ 64))) k false ≡ false) × ((j : ℕ) (f : ℕ × ℕ) → j < n + 1 → slice_get next.changed.items j ≡ Some f → f.0 ≡ k → ⊥))
       by k inside (inl here) was =
-          let long = length-flags count mask in
+          let long = length-flags (length old.base.items) mask in
           inl (
-            ap (λ l. slice_index_or l k false) set ∙ ap (λ p. slice_index_or (slice_set (flags count mask) e.0 true) p false) here
-            ∙ get_or-set_same (flags count mask) e.0 true false (omega (arith, long, lt)),
+            ap (λ l. slice_index_or l k false) set ∙ ap (λ p. slice_index_or (slice_set (flags (length old.base.items) mask) e.0 true) p false) here
+            ∙ get_or-set_same (flags (length old.base.items) mask) e.0 true false (omega (arith, long, lt)),
             ap (λ l. slice_index_or l k no_slot) slots ∙ ap (λ p. slice_index_or (slice_set now.slots.items e.0 (slot_in core e.0)) p no_slot) here
             ∙ get_or-set_same now.slots.items e.0 (slot_in core e.0) no_slot (omega (arith, many, lt)) ∙ ap (slot_in core) (sym here),
           )
       by k inside (inr ne) (inl was) = inl (
-        ap (λ l. slice_index_or l k false) set ∙ get_or-set_other (flags count mask) e.0 k true false ne ∙ was.0,
+        ap (λ l. slice_index_or l k false) set ∙ get_or-set_other (flags (length old.base.items) mask) e.0 k true false ne ∙ was.0,
         ap (λ l. slice_index_or l k no_slot) slots ∙ get_or-set_other now.slots.items e.0 k (slot_in core e.0) no_slot ne ∙ was.1,
       )
       by k inside (inr ne) (inr was) = inr (
-        ap (λ l. slice_index_or l k false) set ∙ get_or-set_other (flags count mask) e.0 k true false ne ∙ was.0,
+        ap (λ l. slice_index_or l k false) set ∙ get_or-set_other (flags (length old.base.items) mask) e.0 k true false ne ∙ was.0,
         λ j f low got_f at.
           let there : slice_get now.changed.items j ≡ Some f = ap (λ v. slice_get v.items j) (sym changed) ∙ got_f in
           elim (up_to j n low) [
