@@ -6,7 +6,8 @@ use Rattle.mm_model.proofs.CoreRows.{each_push}
 use Rattle.mm_model.specs.{Image.Image, Slot.Slot, State.State, Spelling.IsImage}
 use Rattle.mm_config.specs.declared.configs.Configs as code
 use Rattle.mm_config.specs.declared.{store.Store.Store, names.Names.Names}
-use Rattle.mm_config.specs.{Configurations.configuration, Machines.Configs, Keeping.{IsConfigurationOf, IsKeyOf, Stands}}
+use Rattle.mm_config.specs.declared.configs.Looked.{TheVariants.{Known, New, Full}}
+use Rattle.mm_config.specs.{Configurations.configuration, Machines.{Configs, Keeps}, Keeping.{IsConfigurationOf, IsKeyOf, Stands}}
 use Rattle.mm_config.specs.Naming.{AreNamesOf, IsRest, IsKeptOnce}
 use Rattle.mm_config.proofs.{NamedOnce.{rests_tell, one_rest, all_got}, OneConfig.names_are_of_one, Zips.{zip_long, zip_at, zip_from, zip_more, each_at}}
 use Rattle.mm_pairs.proofs.Inserts.{same_pair, is_same, own_pair}
@@ -74,3 +75,21 @@ module _ (i : Image) (v : Configs) (c : code.Configs) (once : IsKeptOnce c.store
             (zip_more (IsKeyOf i.slots c.depth c.store) v.kept c.kept.keys v.machine key_now h.each (record { names = c.names; are = h.named.names; slots = refl; rest = h.named.rest }));
         few = omega (arith, long, few);
       })
+
+  -- the three answers
+  pub keeps_known : (limit at : ℕ) (key : ℕ × ℕ) → slice_get c.kept.keys at ≡ Some key → same_pair (c.names.slots, c.rest) key ≡ true
+      → (now : Configs) × Stands i now c × Keeps limit (Known at) v now
+  keeps_known limit at key got same = (v, h, kept_at at key got same, refl)
+
+  pub keeps_full : (limit : ℕ) → list_any (same_pair (c.names.slots, c.rest)) c.kept.keys ≡ false → limit ≤ length c.kept.keys
+      → (now : Configs) × Stands i now c × Keeps limit Full v now
+  keeps_full limit none high =
+      let long = zip_long (IsKeyOf i.slots c.depth c.store) v.kept c.kept.keys h.each in
+      (v, h, not_kept none, omega (arith, long, high), refl)
+
+  pub keeps_new : (limit : ℕ) (d : code.Configs) → list_any (same_pair (c.names.slots, c.rest)) c.kept.keys ≡ false → length c.kept.keys < limit → limit ≤ 2 ^ 31
+      → d ≡ record c { kept = d.kept } → d.kept.keys ≡ c.kept.keys ++ (c.names.slots, c.rest) ∷ []
+      → (now : Configs) × Stands i now d × Keeps limit New v now
+  keeps_new limit d none low few rest keys =
+      let long = zip_long (IsKeyOf i.slots c.depth c.store) v.kept c.kept.keys h.each in
+      (record v { kept = v.kept ++ v.machine ∷ [] }, kept_more d rest keys (omega (arith, long, low, few)), not_kept none, omega (arith, long, low), refl)

@@ -17,6 +17,7 @@ pub mod OwnCells
 pub mod NotedRest
 pub mod NotedWhole
 pub mod ReadSlots
+pub mod StartNames
 pub mod Revising
 pub mod Turned
 pub mod CellForms
