@@ -18,6 +18,7 @@ pub mod NotedRest
 pub mod NotedWhole
 pub mod ReadSlots
 pub mod StartNames
+pub mod ChangedOutputs
 pub mod Revising
 pub mod Turned
 pub mod CellForms
