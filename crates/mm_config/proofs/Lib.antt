@@ -17,6 +17,7 @@ pub mod OwnCells
 pub mod NotedRest
 pub mod NotedWhole
 pub mod ReadSlots
+pub mod ReadQueues
 pub mod StartNames
 pub mod ChangedOutputs
 pub mod Revising
