@@ -52,8 +52,7 @@ module _ (k : Store) (old new : List ℕ) (kept was wanted : ℕ) (bytes : List 
       let b = first_byte k h.own was h.chain (λ e. omega (arith, e, less)) in
       let shorter : b.shorter ≡ parts.0 = ap (λ (p : ℕ × ℕ). p.0) (sym b.pair ∙ sym are) in
       let long = h.long ∙ ap length b.is in
-      let low = b.less in
-      (
+      let low = b.less in (
         omega (arith, long),
         omega (arith, low, shorter),
         record {
@@ -77,8 +76,7 @@ module _ (k : Store) (old new : List ℕ) (kept was wanted : ℕ) (bytes : List 
       let next : b.byte + 1 ≡ parts.1 = ap (λ (p : ℕ × ℕ). p.1) (sym b.pair ∙ sym are) in
       let low = b.less in
       let below : b.byte < 256 = inner bytes b.byte b.before (subst (AllByRecursion (λ byte. byte < 256)) (h.target ∙ ap (λ l. bytes ++ l) b.is) small) in
-      let byte : b.byte ≡ (parts.1 - 1) % 256 = omega (arith, next, below) in
-      (
+      let byte : b.byte ≡ (parts.1 - 1) % 256 = omega (arith, next, below) in (
         omega (arith, next),
         omega (arith, low, shorter),
         record {
@@ -106,8 +104,7 @@ changing_ends k old new kept was wanted bytes h e =
     let count : length (reverse h.own) ≡ kept = length-reverse h.own ∙ sym h.long in
     let start : take kept old ≡ reverse h.own = ap (take kept) whole ∙ take_at (reverse h.own) (reverse h.front) kept count in
     let all = ap length whole in
-    let both = Rattle.std.proofs.Common.length-append (reverse h.own) (reverse h.front) in
-    (
+    let both = Rattle.std.proofs.Common.length-append (reverse h.own) (reverse h.front) in (
       omega (arith, all, both, count),
       ap (λ l. l ++ reverse bytes) start ∙ ap (λ l. reverse l ++ reverse bytes) same ∙ sym (reverse-append bytes h.left) ∙ ap reverse (sym h.target) ∙ reverse-reverse new,
     )

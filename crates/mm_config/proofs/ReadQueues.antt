@@ -104,17 +104,17 @@ module _ (core : Core) (old : code.Configs) where
       → QueuesSoFar core old next (n + 1)
   one_queue_read now next n e events so got lt are queues changed slots others = record {
     queues = subst (AllByRecursion (λ (x : ℕ × List Event). (x.0 < length old.core.rows) × (x.1 ≡ queue_in core x.0))) (sym queues)
-      (each_push (λ (x : ℕ × List Event). (x.0 < length old.core.rows) × (x.1 ≡ queue_in core x.0)) (queues_in now.revision) (e.0, events) so.queues (lt, are));
+        (each_push (λ (x : ℕ × List Event). (x.0 < length old.core.rows) × (x.1 ≡ queue_in core x.0)) (queues_in now.revision) (e.0, events) so.queues (lt, are));
     listed = λ j f low got_f.
-    let there : slice_get now.changed.items j ≡ Some f = ap (λ v. slice_get v.items j) (sym changed) ∙ got_f in
-    subst (IsListed (λ (x : ℕ × List Event). x.0) f.0) (sym queues) (elim (up_to j n low) [
-      | inl before ↦ listed_more (λ (x : ℕ × List Event). x.0) f.0 (queues_in now.revision) ((e.0, events) ∷ []) (so.listed j f before there)
-      | inr last ↦
-        let two : ◌≡◌ {A = Option (ℕ × ℕ)} (Some e) (Some f) = sym got ∙ ap (slice_get now.changed.items) (sym last) ∙ there in
-        let one : e ≡ f = cc in
-        subst (λ p. IsListed (λ (x : ℕ × List Event). x.0) p (queues_in now.revision ++ (e.0, events) ∷ [])) (ap (λ (x : ℕ × ℕ). x.0) one)
-          (listed_last (λ (x : ℕ × List Event). x.0) (queues_in now.revision) (e.0, events))
-    ]);
+        let there : slice_get now.changed.items j ≡ Some f = ap (λ v. slice_get v.items j) (sym changed) ∙ got_f in
+        subst (IsListed (λ (x : ℕ × List Event). x.0) f.0) (sym queues) (elim (up_to j n low) [
+          | inl before ↦ listed_more (λ (x : ℕ × List Event). x.0) f.0 (queues_in now.revision) ((e.0, events) ∷ []) (so.listed j f before there)
+          | inr last ↦
+              let two : ◌≡◌ {A = Option (ℕ × ℕ)} (Some e) (Some f) = sym got ∙ ap (slice_get now.changed.items) (sym last) ∙ there in
+              let one : e ≡ f = cc in
+              subst (λ p. IsListed (λ (x : ℕ × List Event). x.0) p (queues_in now.revision ++ (e.0, events) ∷ [])) (ap (λ (x : ℕ × ℕ). x.0) one)
+              (listed_last (λ (x : ℕ × List Event). x.0) (queues_in now.revision) (e.0, events))
+        ]);
     room = slots ∙ so.room;
     others = others ∙ ap (λ (c : code.Configs). record c { slots = next.slots; revision = next.revision; changed = next.changed }) so.others;
   }
@@ -126,8 +126,8 @@ module _ (core : Core) (old : code.Configs) where
     queues = so.queues;
     rest = λ p lt. elim (left p lt) [
       | inl h ↦
-        let within = slice_get_within now.changed.items h.0 h.1 h.2 in
-        inl (subst (λ q. IsListed (λ (x : ℕ × List Event). x.0) q (queues_in now.revision)) h.3 (so.listed h.0 h.1 (omega (arith, within, end)) h.2))
+          let within = slice_get_within now.changed.items h.0 h.1 h.2 in
+          inl (subst (λ q. IsListed (λ (x : ℕ × List Event). x.0) q (queues_in now.revision)) h.3 (so.listed h.0 h.1 (omega (arith, within, end)) h.2))
       | inr same ↦ inr same
     ];
     room = so.room;

@@ -40,7 +40,7 @@ module _ (i : Image) (s : State) (depth : ℕ) (k : Store) (n : Names) (img : Is
   pub name_at : (p : ℕ) → p < length i.slots → IsSlotName k (slice_index_or i.slots p no_slot) (slot_in s.core p) (leaf_at k.pairs depth n.slots p)
   name_at p lt =
       let there = subst (λ o. IsOrNone (λ (x : Slot × Slot) name. IsSlotName k x.0 x.1 name) o (leaf_at k.pairs depth n.slots p))
-        (slice_get-get_or (zip i.slots (slots_of s.core)) p (no_slot, no_slot) (omega (arith, lt, pairs_long))) (names.slots.each p) in
+      (slice_get-get_or (zip i.slots (slots_of s.core)) p (no_slot, no_slot) (omega (arith, lt, pairs_long))) (names.slots.each p) in
       subst (λ (x : Slot × Slot). IsSlotName k x.0 x.1 (leaf_at k.pairs depth n.slots p)) (pair_at p lt) there
 
   pub none_past : (p : ℕ) → length i.slots ≤ p → leaf_at k.pairs depth n.slots p ≡ 0
@@ -153,16 +153,16 @@ module _ (core : Core) (old : code.Configs) (few : length old.base.items ≤ 64)
 
       by : (k : ℕ) → k < (length old.base.items) → (k ≡ e.0) ⊎ (k ≡ e.0 → ⊥)
           → ((slice_index_or (flags (length old.base.items) mask) k false ≡ true) × (slice_index_or now.slots.items k no_slot ≡ slot_in core k))
-            ⊎ ((slice_index_or (flags (length old.base.items) mask) k false ≡ false) × ((j : ℕ) (f : ℕ × ℕ) → j < n → slice_get now.changed.items j ≡ Some f → f.0 ≡ k → ⊥))
+          ⊎ ((slice_index_or (flags (length old.base.items) mask) k false ≡ false) × ((j : ℕ) (f : ℕ × ℕ) → j < n → slice_get now.changed.items j ≡ Some f → f.0 ≡ k → ⊥))
           → ((slice_index_or (flags (length old.base.items) (bit_or mask (1 * 2 ^ e.0 % 2 ^ 64))) k false ≡ true) × (slice_index_or next.slots.items k no_slot ≡ slot_in core k))
-            ⊎ ((slice_index_or (flags (length old.base.items) (bit_or mask (1 * 2 ^ e.0 % 2 ^ 64))) k false ≡ false) × ((j : ℕ) (f : ℕ × ℕ) → j < n + 1 → slice_get next.changed.items j ≡ Some f → f.0 ≡ k → ⊥))
+          ⊎ ((slice_index_or (flags (length old.base.items) (bit_or mask (1 * 2 ^ e.0 % 2 ^ 64))) k false ≡ false) × ((j : ℕ) (f : ℕ × ℕ) → j < n + 1 → slice_get next.changed.items j ≡ Some f → f.0 ≡ k → ⊥))
       by k inside (inl here) was =
           let long = length-flags (length old.base.items) mask in
           inl (
             ap (λ l. slice_index_or l k false) set ∙ ap (λ p. slice_index_or (slice_set (flags (length old.base.items) mask) e.0 true) p false) here
-            ∙ get_or-set_same (flags (length old.base.items) mask) e.0 true false (omega (arith, long, lt)),
+                ∙ get_or-set_same (flags (length old.base.items) mask) e.0 true false (omega (arith, long, lt)),
             ap (λ l. slice_index_or l k no_slot) slots ∙ ap (λ p. slice_index_or (slice_set now.slots.items e.0 (slot_in core e.0)) p no_slot) here
-            ∙ get_or-set_same now.slots.items e.0 (slot_in core e.0) no_slot (omega (arith, many, lt)) ∙ ap (slot_in core) (sym here),
+                ∙ get_or-set_same now.slots.items e.0 (slot_in core e.0) no_slot (omega (arith, many, lt)) ∙ ap (slot_in core) (sym here),
           )
       by k inside (inr ne) (inl was) = inl (
         ap (λ l. slice_index_or l k false) set ∙ get_or-set_other (flags (length old.base.items) mask) e.0 k true false ne ∙ was.0,
@@ -171,14 +171,14 @@ module _ (core : Core) (old : code.Configs) (few : length old.base.items ≤ 64)
       by k inside (inr ne) (inr was) = inr (
         ap (λ l. slice_index_or l k false) set ∙ get_or-set_other (flags (length old.base.items) mask) e.0 k true false ne ∙ was.0,
         λ j f low got_f at.
-          let there : slice_get now.changed.items j ≡ Some f = ap (λ v. slice_get v.items j) (sym changed) ∙ got_f in
-          elim (up_to j n low) [
-            | inl before ↦ was.1 j f before there at
-            | inr last ↦
-              let two : ◌≡◌ {A = Option (ℕ × ℕ)} (Some f) (Some e) = sym there ∙ ap (slice_get now.changed.items) last ∙ got in
-              let one : f ≡ e = cc in
-              ne (sym at ∙ ap (λ (x : ℕ × ℕ). x.0) one)
-          ],
+            let there : slice_get now.changed.items j ≡ Some f = ap (λ v. slice_get v.items j) (sym changed) ∙ got_f in
+            elim (up_to j n low) [
+              | inl before ↦ was.1 j f before there at
+              | inr last ↦
+                  let two : ◌≡◌ {A = Option (ℕ × ℕ)} (Some f) (Some e) = sym there ∙ ap (slice_get now.changed.items) last ∙ got in
+                  let one : f ≡ e = cc in
+                  ne (sym at ∙ ap (λ (x : ℕ × ℕ). x.0) one)
+            ],
       )
 
   -- all slots
@@ -197,7 +197,7 @@ module _ (core : Core) (old : code.Configs) (few : length old.base.items ≤ 64)
 
       by : (k : ℕ) → k < length old.base.items
           → ((slice_index_or (flags (length old.base.items) mask) k false ≡ true) × (slice_index_or now.slots.items k no_slot ≡ slot_in core k))
-            ⊎ ((slice_index_or (flags (length old.base.items) mask) k false ≡ false) × ((j : ℕ) (e : ℕ × ℕ) → j < n → slice_get now.changed.items j ≡ Some e → e.0 ≡ k → ⊥))
+          ⊎ ((slice_index_or (flags (length old.base.items) mask) k false ≡ false) × ((j : ℕ) (e : ℕ × ℕ) → j < n → slice_get now.changed.items j ≡ Some e → e.0 ≡ k → ⊥))
           → (if slice_index_or (flags (length old.base.items) mask) k false then slice_index_or now.slots.items k no_slot else slot_in old.core k) ≡ slot_in core k
       by k lt (inl h) = pick (slice_index_or (flags (length old.base.items) mask) k false) (slice_index_or now.slots.items k no_slot) (slot_in old.core k) (slot_in core k) h.0 h.1
       by k lt (inr h) =
