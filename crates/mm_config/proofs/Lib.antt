@@ -19,6 +19,7 @@ pub mod NotedWhole
 pub mod ReadSlots
 pub mod ReadQueues
 pub mod StartNames
+pub mod Rising
 pub mod ChangedOutputs
 pub mod Revising
 pub mod Turned

@@ -3,6 +3,7 @@ pub mod StateNumbers
 pub mod States
 pub mod Forms
 pub mod Places
+pub mod Chains
 pub mod Naming
 pub mod Noting
 pub mod Putting

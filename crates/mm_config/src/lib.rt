@@ -9,7 +9,7 @@
 //! |---|---|---|
 //! | a slot | numbers: its difference from the image's | `slot_form` |
 //! | a queue | numbers | `events` |
-//! | an output | a pair of a shorter output and of one more than its last byte | `note` |
+//! | an output | a pair of a shorter output and of one more than its last byte | `outputs` |
 //! | a cell | its bits, and whether it is full and a pointer | `cells` |
 //! | a page | a pair of 1 and of the tree of its 512 cells | `pages` |
 //! | the slots, the queues, the outputs, the pages | full binary trees | `mm_pairs` |
@@ -23,6 +23,7 @@ mod lists;
 mod memory;
 mod names;
 mod note;
+mod outputs;
 mod pages;
 mod places;
 mod put;

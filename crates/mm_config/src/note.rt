@@ -191,10 +191,10 @@ impl Configs {
         if output.len() == before {
             return Ok(());
         }
-        let byte = u32::from(output[output.len() - 1]);
+        let byte = output[output.len() - 1];
         let place = u64::from(group);
         let shorter = self.store.pairs.leaf(self.names.outputs, GROUPS, place);
-        let name = self.store.outputs.join(shorter, byte + 1)?;
+        let name = self.store.outputs.longer(shorter, byte)?;
         self.names.outputs = self
             .store
             .pairs

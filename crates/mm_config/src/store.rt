@@ -4,6 +4,7 @@ ghost use Rattle.mm_config.specs.Naming.{IsKeptOnce};
 
 use crate::cells::Cells;
 use crate::lists::Lists;
+use crate::outputs::Outputs;
 use crate::places::Places;
 use mm_pairs::Pairs;
 use std::alloc::Global;
@@ -12,9 +13,7 @@ use std::alloc::Global;
 #[derive(Drop)]
 pub(crate) struct Store {
     pub(crate) pairs: Pairs,
-    /// Outputs: pairs of a shorter output and one more than its next byte. An output has a greater name than a shorter one
-    /// that it begins with.
-    pub(crate) outputs: Pairs,
+    pub(crate) outputs: Outputs,
     /// The numbers of slots and of queues.
     pub(crate) lists: Lists,
     pub(crate) cells: Cells,
@@ -27,7 +26,7 @@ impl Store {
     pub(crate) fn new(alloc: Global) -> Store {
         Store {
             pairs: Pairs::new(alloc),
-            outputs: Pairs::new(alloc),
+            outputs: Outputs::new(alloc),
             lists: Lists::new(alloc),
             cells: Cells::new(alloc),
             pages: Places::new(alloc),
