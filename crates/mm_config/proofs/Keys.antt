@@ -34,7 +34,7 @@ module _ (i : Image) (s m : State) (depth : ℕ) (k : Store) (now : Names) (rest
 -- 2. The key of the machine's configuration among those that were kept.
 
 module _ (i : Image) (v : Configs) (c : code.Configs) (once : IsKeptOnce c.store) (h : Stands i v c) where
-  key_now : ℕ × ℕ
+  abbrev pub key_now : ℕ × ℕ
   key_now = (c.names.slots, c.rest)
 
   -- a kept configuration whose key it is is the machine's
@@ -79,17 +79,36 @@ module _ (i : Image) (v : Configs) (c : code.Configs) (once : IsKeptOnce c.store
   -- the three answers
   pub keeps_known : (limit at : ℕ) (key : ℕ × ℕ) → slice_get c.kept.keys at ≡ Some key → same_pair (c.names.slots, c.rest) key ≡ true
       → (now : Configs) × Stands i now c × Keeps limit (Known at) v now
-  keeps_known limit at key got same = (v, h, kept_at at key got same, refl)
+  keeps_known limit at key got same = (v, h, (kept_at at key got same, refl))
 
   pub keeps_full : (limit : ℕ) → list_any (same_pair (c.names.slots, c.rest)) c.kept.keys ≡ false → limit ≤ length c.kept.keys
       → (now : Configs) × Stands i now c × Keeps limit Full v now
   keeps_full limit none high =
       let long = zip_long (IsKeyOf i.slots c.depth c.store) v.kept c.kept.keys h.each in
-      (v, h, not_kept none, omega (arith, long, high), refl)
+      (v, h, (not_kept none, omega (arith, long, high), refl))
 
   pub keeps_new : (limit : ℕ) (d : code.Configs) → list_any (same_pair (c.names.slots, c.rest)) c.kept.keys ≡ false → length c.kept.keys < limit → limit ≤ 2 ^ 31
       → d ≡ record c { kept = d.kept } → d.kept.keys ≡ c.kept.keys ++ (c.names.slots, c.rest) ∷ []
       → (now : Configs) × Stands i now d × Keeps limit New v now
   keeps_new limit d none low few rest keys =
       let long = zip_long (IsKeyOf i.slots c.depth c.store) v.kept c.kept.keys h.each in
-      (record v { kept = v.kept ++ v.machine ∷ [] }, kept_more d rest keys (omega (arith, long, low, few)), not_kept none, omega (arith, long, low), refl)
+      (record v { kept = v.kept ++ v.machine ∷ [] }, kept_more d rest keys (omega (arith, long, low, few)), (not_kept none, omega (arith, long, low), refl))
+
+  -- a key that was there is not kept anew
+  pub keeps_again : (limit at : ℕ) (d : code.Configs) (key : ℕ × ℕ) → d ≡ record c { kept = d.kept } → d.kept.keys ≡ c.kept.keys → slice_get c.kept.keys at ≡ Some key
+      → same_pair (c.names.slots, c.rest) key ≡ true → (now : Configs) × Stands i now d × Keeps limit (Known at) v now
+  keeps_again limit at d key rest keys got same = (
+    v,
+    subst (Stands i v) (sym rest) (record {
+      image = h.image;
+      base = h.base;
+      room = h.room;
+      depth = h.depth;
+      machine = record { core = h.machine.core; memory = h.machine.memory; config = h.machine.config; uses = h.machine.uses; mapped = h.machine.mapped };
+      named = record { names = h.named.names; rest = h.named.rest };
+      configs = h.configs;
+      each = subst (AllZip (IsKeyOf i.slots c.depth c.store) v.kept) (sym keys) h.each;
+      few = h.few;
+    }),
+    (kept_at at key got same, refl),
+  )

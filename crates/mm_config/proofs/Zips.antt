@@ -28,7 +28,7 @@ module _ {A B : Type 0} (R : A → B → Type 0) where
   zip_more (w ∷ xs) [] x y h r = absurd h
   zip_more (v ∷ xs) (w ∷ ys) x y h r = (h.0, zip_more xs ys x y h.1 r)
 
-each_at : {A : Type 0} (P : A → Type 0) (xs : List A) → AllByRecursion P xs → (at : ℕ) (d : A) → at < length xs → P (slice_index_or xs at d)
+pub each_at : {A : Type 0} (P : A → Type 0) (xs : List A) → AllByRecursion P xs → (at : ℕ) (d : A) → at < length xs → P (slice_index_or xs at d)
 each_at P [] e at d lt = absurd (omega (arith, lt))
 each_at P (x ∷ xs) e zero d lt = e.0
 each_at P (x ∷ xs) e (suc at) d lt = each_at P xs e.1 at d (omega (arith, lt))
