@@ -153,23 +153,6 @@ impl Slot {
         }
     }
 
-    /// Makes the slot, but for its number, group and handler, what another is.
-    pub fn assign(&mut self, other: &Slot)
-        ensures { self.new ≡ record other.now
-            { number = self.old.number; group = self.old.group; handler = self.old.handler } }
-    {
-        self.regs.copy_from_slice(&other.regs);
-        self.ip = other.ip;
-        self.past = other.past;
-        self.turns = other.turns;
-        self.state = other.state;
-        self.empty = other.empty;
-        self.pending.clear();
-        self.pending
-            .try_extend_from_slice(other.pending.as_slice())
-            .unwrap();
-    }
-
     /// Copies of the slots.
     pub fn copies(alloc: Global, slots: &[Slot]) -> Result<Vec<Slot>, AllocError>
         ensures { IfOk result (λ copies. copies.items ≡ slots.now) }

@@ -25,7 +25,7 @@ use crate::group_output::GroupOutput;
 use crate::local_ops::Entered;
 use crate::row::ThreadRow;
 use crate::run_mask::{keep_running, noted, ran_on, runners_of};
-use crate::slot::{advance, deliver, issue, resume, set_register, sets, stand, take_event};
+use crate::slot::{advance, assign, deliver, issue, resume, set_register, sets, stand, take_event};
 use mm_isa::{EvtReg, How, Instr, Reg};
 use mm_model::{Event, Slot, SlotState, output_limit};
 use mm_word::Word;
@@ -391,7 +391,7 @@ impl Tables {
         ensures { self.new ≡ with_slot self.old at slot.now }
     {
         let row = &mut self.rows[at];
-        row.slot.assign(slot);
+        assign(&mut row.slot, slot);
         self.runners = noted(self.runners, &row.slot);
     }
 
