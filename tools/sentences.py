@@ -59,7 +59,7 @@ SECTIONS = [
     ("docs/AUDIT.md", "## What an audit guarantees", "mm_laws/specs/Runs.antt mm_model/specs/Reach.antt"),
     ("docs/AUDIT.md", "## Extracting groups from an image", "mm_audit/specs/Own.antt"),
     ("docs/EXPLORE.md", "## What is proved", "mm_explore/specs/Laws.antt"),
-    ("docs/EXPLORE.md", "## Complete or cut short", "mm_explore/specs/Configurations.antt"),
+    ("docs/EXPLORE.md", "## Complete or cut short", "mm_config/specs/Configurations.antt mm_explore/specs/Moves.antt"),
     ("docs/REVOCATION.md", "## What a sweep guarantees", "mm_sweep/specs/Laws.antt mm_sweep/specs/Refusals.antt"),
     ("docs/CHECKPOINTS.md", "## A run in two pieces", "mm_top/specs/SaveToRun.antt"),
     ("docs/NETS.md", "## What a link does", "mm_net/specs/Moves.antt"),

@@ -1,7 +1,9 @@
 -- Each schedule up to one of the list has, at or before it, one of the list that leads to the same configuration.
 use Rattle.std.{proofs.Common.{◌≡◌, inl, inr, ℕ, List, [], ◌∷◌, refl, sym, ap, ◌∙◌}, specs.Prelude.Contains}
 use Rattle.mm_model.specs.{State.State, Image.{Image, start}, Run.{after, run}}
-use Rattle.mm_explore.specs.{Configurations.configuration, Schedules.Before, Explored.{leads_to, IsLeast, IsExplored}}
+use Rattle.mm_config.specs.Configurations.{configuration}
+use Rattle.mm_explore.specs.Schedules.{Before}
+use Rattle.mm_explore.specs.Explored.{leads_to, IsLeast, IsExplored}
 use Rattle.mm_explore.specs.{Laws.GoOnAlike, Searching.{UpTo, Cover}}
 use Rattle.mm_explore.proofs.Orders.{up_to_before, before_up_to, before_self, before_rec, more}
 use Rattle.mm_span.proofs.Members.{all_at}

@@ -5,7 +5,7 @@ use Rattle.std.specs.{Prelude.Contains, List.flat_map}
 use Rattle.mm_word.specs.Cause.{cause_numbers}
 use Rattle.mm_model.specs.{Image.{Image, start}, Report.groups_of, Slot.Slot, Spelling.IsImage, Run.run}
 use Rattle.mm_span.specs.Pairs.{EachPair}
-use Rattle.mm_explore.specs.Configurations.{moves}
+use Rattle.mm_explore.specs.Moves.{moves}
 use Rattle.mm_explore.specs.Schedules.{Before}
 use Rattle.mm_explore.specs.Explored.{IsExplored}
 use Rattle.mm_explore.specs.Findings.{Extension, extended, turn_at, extensions, explored_turns, has_fault, first_fault}

@@ -6,9 +6,9 @@ use Rattle.std.specs.{Prelude.Contains, List.list_any}
 use lib.Pointwise.{pointwise, pointwise_decides}
 use Rattle.mm_explore.specs.declared.explored.Ending.{Ending, TheVariants.{Ended, Stuck, Endless}}
 use Rattle.mm_explore.specs.declared.explored.Standing.{Standing, TheVariants.{Busy, In}}
-use Rattle.mm_explore.specs.Outcomes.{Outcome, End, ending_number, standing_number, state_number, same_outcome, firsts_after, firsts}
-use Rattle.mm_explore.specs.Kept.{state_at}
-use Rattle.mm_explore.proofs.{SlotForms.state_back}
+use Rattle.mm_explore.specs.Outcomes.{Outcome, End, ending_number, standing_number, same_outcome, firsts_after, firsts}
+use Rattle.mm_config.specs.StateNumbers.{state_number}
+use Rattle.mm_config.{specs.Forms.state_at, proofs.SlotForms.state_back}
 use Rattle.mm_span.proofs.Members.{none_in, in_first, in_rest, in_cases}
 
 -- 1. Outcomes that are tested to be the same are the same.

@@ -4,7 +4,8 @@ use Rattle.std.{proofs.lemmas.Bool.both_ways, specs.Prelude.{Contains, IsSome}}
 use Rattle.mm_word.specs.{declared.perm.Kind.Kind, Access.AccessValue}
 use Rattle.mm_model.specs.{declared.step.Step.Step, State.State, Image.{Image, start}, Turn.{Turned, idle}}
 use Rattle.mm_model.specs.{Run.{turn_of, run}, Trace.{touches, group_in}}
-use Rattle.mm_explore.specs.{Configurations.moves, Explored.leads_to}
+use Rattle.mm_explore.specs.Moves.{moves}
+use Rattle.mm_explore.specs.Explored.{leads_to}
 use Rattle.mm_explore.specs.Findings.{Extension, turn_at, extensions, explored_turns, Reaches, has_fault}
 use Rattle.mm_explore.specs.{Findings.{first_fault, IsFinal}, Laws.GoesOnAlike}
 use Rattle.mm_span.proofs.Members.{none_in, in_map, in_flat, finds_some}

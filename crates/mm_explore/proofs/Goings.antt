@@ -4,8 +4,9 @@ use Rattle.std.{proofs.Common.{Option, Some, None, refl, sym, ap, ◌∙◌}, sp
 use Rattle.mm_model.specs.Slot.{Slot}
 use Rattle.mm_model.specs.{State.{ThreadRow, State, slot_at, output_of}, Turn.{Turned, turn}}
 use Rattle.mm_model.specs.{Run.{turn_of, after}, Trace.{group_of, group_in}}
-use Rattle.mm_explore.specs.Configurations.{uncounted_row, uncounted, configuration, runs, has_load, running_slots}
-use Rattle.mm_explore.specs.Configurations.{loaded_ports, moves}
+use Rattle.mm_config.specs.Configurations.{uncounted_row, uncounted, configuration}
+use Rattle.mm_explore.specs.Moves.{runs, has_load, running_slots}
+use Rattle.mm_explore.specs.Moves.{loaded_ports, moves}
 use Rattle.mm_explore.specs.Laws.{GoesOnAlike, ConfigurationsGoOn}
 use Rattle.mm_explore.proofs.Uncounted.{uncounted_one, slot_at_so, SameTurn, turns_alike}
 
@@ -43,7 +44,7 @@ moves_bare s =
     ap (λ l. l ++ (if s.core.split then loaded_ports (map uncounted_row s.core.rows) else [])) (running_bare s.core.rows)
     ∙ ap (λ l. running_slots s.core.rows ++ (if s.core.split then l else [])) (loaded_bare s.core.rows)
 
-outputs_bare : (s : State) (groups : List ℕ) → map (output_of (configuration s).core) groups ≡ map (output_of s.core) groups
+pub outputs_bare : (s : State) (groups : List ℕ) → map (output_of (configuration s).core) groups ≡ map (output_of s.core) groups
 unfolding configuration output_of
 outputs_bare s groups = refl
 
@@ -57,7 +58,7 @@ group_so : (o : Option Slot) → group_of (uncounted_one o) ≡ group_of o
 group_so None = refl
 group_so (Some s) = refl
 
-group_bare : (t : Turned) → group_of (slot_at (uncounted t.core) t.step.slot) ≡ group_in t
+pub group_bare : (t : Turned) → group_of (slot_at (uncounted t.core) t.step.slot) ≡ group_in t
 group_bare t = ap group_of (slot_at_so t.core t.step.slot) ∙ group_so (slot_at t.core t.step.slot)
 
 turns_same : (s t : State) (n : ℕ) → configuration s ≡ configuration t → SameTurn (turn_of s n) (turn_of t n)

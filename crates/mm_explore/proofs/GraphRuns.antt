@@ -8,9 +8,12 @@ use Rattle.std.specs.{Prelude.{Contains}, List.{AllByRecursion, AllZip, filter}}
 use Rattle.mm_endless.{specs.Graphs.{children, AreNodes, IsWalk, Leads, IsRecurrent, IsLeast as IsLeastNode}, proofs.Walking.leads_self}
 use Rattle.mm_model.specs.{Image.{Image, start}, Run.run, Spelling.IsImage, State.{State, ThreadRow}}
 use Rattle.mm_span.{specs.Pairs.EachPair, proofs.Members.{none_in, in_first, in_rest, in_cases, all_at, all_of}}
-use Rattle.mm_explore.specs.{Closed.{LeadsOn, IsAtEnd, IsFirstEndless}, Configurations.{uncounted_slot, moves, running_slots, loaded_ports, runs, has_load}, Explored.{leads_to, IsLeast, IsExplored, IsAll}}
+use Rattle.mm_explore.specs.Closed.{LeadsOn, IsAtEnd, IsFirstEndless}
+use Rattle.mm_config.specs.Configurations.{uncounted_slot}
+use Rattle.mm_explore.specs.Moves.{moves, running_slots, loaded_ports, runs, has_load}
+use Rattle.mm_explore.specs.Explored.{leads_to, IsLeast, IsExplored, IsAll}
 use Rattle.mm_explore.specs.{Findings.IsFinal, Schedules.Before, Searching.{IsChild, AreChildren, IsGraph}}
-use Rattle.mm_explore.proofs.{AllFound.at_index, ApartSlots.{few_slots, slots_count}, FirstOnes.index_one, HeldEnds.slots_bare, Movings.{moves_or_idles, idle_leads}, Coverings.leads_more}
+use Rattle.mm_explore.proofs.{AllFound.at_index, HeldEnds.{few_slots, slots_count}, FirstOnes.index_one, HeldEnds.slots_bare, Movings.{moves_or_idles, idle_leads}, Coverings.leads_more}
 use Rattle.mm_explore.proofs.Orders.{before_self, before_through, before_cases, more}
 use Rattle.mm_explore.proofs.ClosedSets.{all_alike, on_same, on_trans, recurrent_ends, ends_back, end_led, final_stays_all}
 use Rattle.mm_explore.proofs.Turning.{node, node_inside, leads_node, same_least}

@@ -1,7 +1,9 @@
 -- A least schedule is a least schedule and a move after it.
 use Rattle.std.{proofs.Common.{◌≡◌, inl, inr, ℕ, List, sym, ◌∙◌}, specs.Prelude.Contains}
 use Rattle.mm_model.specs.{Image.{Image, start}, Run.run}
-use Rattle.mm_explore.specs.{Configurations.moves, Explored.{leads_to, IsLeast}, Laws.LeastSchedulesAreMoves}
+use Rattle.mm_explore.specs.Moves.{moves}
+use Rattle.mm_explore.specs.Explored.{leads_to, IsLeast}
+use Rattle.mm_explore.specs.Laws.{LeastSchedulesAreMoves}
 use Rattle.mm_explore.proofs.{Orders.{before_more, before_both, more}, Movings.{moves_or_idles, idle_leads}}
 use Rattle.mm_explore.proofs.Coverings.{leads_alike, leads_more}
 

@@ -1,16 +1,16 @@
 -- The moves of a configuration are those of its slots.
-use Rattle.std.proofs.Common.{◌≡◌, ℕ, ◌+◌, ◌<◌, Bool, true, false, ◌||◌, cond, if◌then◌else◌, List, [], ◌∷◌, ◌++◌, map}
-use Rattle.std.proofs.Common.{refl, sym, ap, ◌∙◌, subst}
-use Rattle.std.specs.List.{AllByRecursion, filter, flat_map, list_any, range_with_len}
-use Rattle.mm_model.specs.{Fits.{IsSlot, slots_of}, Groups.has_group, Image.{Image, start}, Report.{is_of, groups_of}}
-use Rattle.mm_model.specs.{Slot.Slot, State.{ThreadRow, State}, Turn.is_running}
-use Rattle.mm_explore.specs.Assembled.{IsStateOf}
-use Rattle.mm_explore.specs.Configurations.{uncounted_slot, runs, has_load, are_some, running_slots, loaded_ports}
-use Rattle.mm_explore.specs.{Configurations.moves, MoveLists.{running_item, loaded_item, ports_in, moves_in}}
+use Rattle.std.proofs.Common.{◌≡◌, ℕ, ◌+◌, Bool, true, false, ◌||◌, cond, if◌then◌else◌, List, [], ◌∷◌, ◌++◌, map}
+use Rattle.std.proofs.Common.{refl, sym, ap, ◌∙◌}
+use Rattle.std.specs.List.{filter, flat_map, list_any, range_with_len}
+use Rattle.mm_model.specs.{Fits.slots_of, Groups.has_group, Image.{Image, start}, Report.{is_of, groups_of}, Run.run}
+use Rattle.mm_model.specs.{Slot.Slot, State.{ThreadRow, Core, State}, Turn.is_running}
+use Rattle.mm_explore.specs.{Explored.leads_to, Moves.{runs, has_load, are_some, running_slots, loaded_ports, moves}}
+use Rattle.mm_explore.specs.MoveLists.{running_item, loaded_item, ports_in, moves_in}
+use Rattle.mm_explore.proofs.Goings.{moves_bare}
 
 -- 1. Moves.
 
-running_are : (rows : List ThreadRow) → flat_map running_item (map uncounted_slot (map (λ (row : ThreadRow). row.slot) rows)) ≡ running_slots rows
+running_are : (rows : List ThreadRow) → flat_map running_item (map (λ (row : ThreadRow). row.slot) rows) ≡ running_slots rows
 running_are [] = refl
 running_are (row ∷ rows) =
     ap (λ l. (if is_running row.slot.state then row.slot.number ∷ [] else []) ++ l) (running_are rows) ∙ by (is_running row.slot.state)
@@ -19,7 +19,7 @@ running_are (row ∷ rows) =
     by true = refl
     by false = refl
 
-loaded_are : (rows : List ThreadRow) → flat_map loaded_item (map uncounted_slot (map (λ (row : ThreadRow). row.slot) rows)) ≡ loaded_ports rows
+loaded_are : (rows : List ThreadRow) → flat_map loaded_item (map (λ (row : ThreadRow). row.slot) rows) ≡ loaded_ports rows
 loaded_are [] = refl
 loaded_are (row ∷ rows) =
     ap (λ l. (if are_some row.slot.pending then (128 + row.slot.number) ∷ [] else []) ++ l) (loaded_are rows) ∙ by (are_some row.slot.pending)
@@ -28,21 +28,15 @@ loaded_are (row ∷ rows) =
     by true = refl
     by false = refl
 
-pub moves_are : (s : State) (split : Bool) (slots : List Slot) → split ≡ s.core.split → slots ≡ map uncounted_slot (slots_of s.core) → moves_in split slots ≡ moves s
+moves_are : (s : State) → moves_in s.core.split (slots_of s.core) ≡ moves s
 unfolding moves
-moves_are s split slots e is =
-    let own : List Slot = map uncounted_slot (slots_of s.core) in
-    ap (moves_in split) is ∙ ap (λ b. moves_in b own) e
-    ∙ ap (λ l. l ++ ports_in s.core.split own) (running_are s.core.rows)
+moves_are s =
+    ap (λ l. l ++ ports_in s.core.split (slots_of s.core)) (running_are s.core.rows)
     ∙ ap (λ l. running_slots s.core.rows ++ (if s.core.split then l else [])) (loaded_are s.core.rows)
 
-small_in : (rows : List ThreadRow) → AllByRecursion IsSlot (map (λ (row : ThreadRow). row.slot) rows)
-    → AllByRecursion (λ (s : Slot). s.number < 64) (map uncounted_slot (map (λ (row : ThreadRow). row.slot) rows))
-small_in [] h = tt
-small_in (row ∷ rows) h = (h.0.number, small_in rows h.1)
-
-pub small_numbers : (i : Image) (s : State) (slots : List Slot) → IsStateOf i s → slots ≡ map uncounted_slot (slots_of s.core) → AllByRecursion (λ (x : Slot). x.number < 64) slots
-small_numbers i s slots h is = subst (AllByRecursion (λ (x : Slot). x.number < 64)) (sym is) (small_in s.core.rows h.state.core.slots)
+-- the moves that are read of a configuration are those of its state
+pub moves_read : (i : Image) (t : List ℕ) (core : Core) → core ≡ (leads_to i t).core → moves_in core.split (slots_of core) ≡ moves (run (start i) t)
+moves_read i t core is = ap (λ (k : Core). moves_in k.split (slots_of k)) is ∙ moves_are (leads_to i t) ∙ moves_bare (run (start i) t)
 
 -- 2. Groups.
 

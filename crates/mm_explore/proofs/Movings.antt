@@ -3,7 +3,7 @@ use Rattle.std.proofs.Common.{◌≡◌, ◌⊎◌, inl, inr, ℕ, ◌+◌, ◌-
 use Rattle.std.proofs.Common.{if◌then◌else◌, List, [], ◌∷◌, map, Option, Some, None, refl, sym, ap, ◌∙◌, subst, arith}
 use Rattle.std.proofs.Common.{eqb-true, leb-true}
 use Rattle.std.proofs.lemmas.{Bool.both_ways, List.Elements.{Contains-append_left, Contains-append_right}}
-use Rattle.std.specs.{Prelude.Contains, List.{filter, Sorted.IsStrictlyIncreasing}}
+use Rattle.std.specs.{Prelude.Contains, List.{AllByRecursion, filter, Sorted.IsStrictlyIncreasing}}
 use Rattle.mm_model.specs.{declared.slot.Pending.Pending, Memory.Memory, Slot.Slot}
 use Rattle.mm_model.specs.State.{ThreadRow, Core, State, row_in, slot_of, slot_at}
 use Rattle.mm_model.specs.Turn.{Turned, is_running, started, idle, arrives, taken_by_port, taken_by, turn}
@@ -11,10 +11,11 @@ use Rattle.mm_model.specs.{Run.{turn_of, after, run}, Image.{Image, start}, Spel
 use Rattle.mm_model.specs.Fits.{IsSlot, slots_of, IsFormed, IsState, Fits}
 use Rattle.mm_model.proofs.{CoreRows.{above_first, rest_rises}, Starts.{start_state, start_fits}}
 use Rattle.mm_model.proofs.StateKeeps.{after_state, after_fits}
-use Rattle.mm_laws.proofs.AlikeRows.{numbers_above}
 use Rattle.mm_span.specs.Pairs.{EachPair}
-use Rattle.mm_explore.specs.Configurations.{uncounted, configuration, runs, are_some, has_load, running_slots}
-use Rattle.mm_explore.specs.{Configurations.{loaded_ports, moves}, Laws.OthersAreIdle}
+use Rattle.mm_config.specs.Configurations.{uncounted, configuration}
+use Rattle.mm_explore.specs.Moves.{runs, are_some, has_load, running_slots}
+use Rattle.mm_explore.specs.Moves.{loaded_ports, moves}
+use Rattle.mm_explore.specs.Laws.{OthersAreIdle}
 use Rattle.mm_span.proofs.Members.{none_in, in_first, in_rest, in_map, in_filter, all_at, map_in, filter_in}
 use Rattle.mm_span.proofs.Members.{pairs_both, pairs_filter, pairs_map}
 
@@ -115,6 +116,11 @@ others_are_idle s n never = elim (moves_or_idles s n) [
 
 abbrev Lower : ThreadRow → ThreadRow → Type 0
 Lower a b = a.slot.number < b.slot.number
+
+numbers_above : (n : ℕ) (rows : List ThreadRow) → AllByRecursion (λ y. n < y) (map (λ (s : Slot). s.number) (map (λ (row : ThreadRow). row.slot) rows))
+    → AllByRecursion (λ (x : ThreadRow). n < x.slot.number) rows
+numbers_above n [] h = tt
+numbers_above n (row ∷ rows) h = (h.0, numbers_above n rows h.1)
 
 rows_rise : (rows : List ThreadRow) → IsStrictlyIncreasing (map (λ (s : Slot). s.number) (map (λ (row : ThreadRow). row.slot) rows)) → EachPair Lower rows
 rows_rise [] h = tt

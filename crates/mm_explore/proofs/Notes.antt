@@ -6,16 +6,19 @@ use Rattle.std.specs.{List.{AllZip, AllByRecursion, flat_map}, Option.option_or,
 use Rattle.indexmap.specs.IndexMap.{insert_entry, IsUnique}
 use lib.Pointwise.{pointwise}
 use Rattle.mm_word.specs.declared.perm.Kind.{Kind}
-use Rattle.mm_model.specs.{declared.step.Step.Step, Image.Image, Trace.group_in, Counted.writes}
+use Rattle.mm_model.specs.{declared.step.Step.Step, Image.{Image, start}, Report.groups_of, Trace.group_in, Counted.writes}
 use Rattle.mm_explore.specs.declared.{findings.Findings.Findings, found.Origin.Origin}
-use Rattle.mm_explore.specs.{Benches.ArePartsAt, Findings.{Extension, turn_at, any_kind, has_fault}, Outcomes.{End, firsts}}
+use Rattle.mm_explore.specs.{Explored.leads_to, Findings.{Extension, turn_at, any_kind, has_fault}, Outcomes.{End, firsts}}
 use Rattle.mm_explore.specs.FoundLists.{IsOrigin}
 use Rattle.mm_explore.specs.Noting.{IsFrom, first_kept, first_in, outcome_form, outcome_held, IsKeptEnd, tally_after, Noted, AreNoted}
 use Rattle.mm_explore.specs.Words.{order, AreKept, step_words, turn_words}
 use Rattle.mm_explore.proofs.Tallies.{ends_more, counts_fit}
 use Rattle.mm_explore.specs.declared.ends.End as code_end
-use Rattle.mm_explore.specs.declared.parts.Parts as code_parts
 use Rattle.indexmap.specs.IndexMap as index
+
+pub more_ok : {T E P Q : Type 0} → (r : Result T E) → (P → Q) → OnOk r P → OnOk r Q
+more_ok (Ok t) f h = f h
+more_ok (Err e) f h = h
 
 pub both_ok : {T E P Q R : Type 0} → (r : Result T E) → (P → Q → R) → OnOk r P → OnOk r Q → OnOk r R
 both_ok (Ok t) f h k = f h k
@@ -61,7 +64,7 @@ module _ (i : Image) (list : List (List ℕ)) (done : List Extension) (x : Exten
 
 module _ (i : Image) (list : List (List ℕ)) (ends : List End) (e : End) (f g : Findings) (at : code_end.End) where
   pub ended_next : (key : Vec ℕ) → AreNoted i list ends f → slice_get list at.at ≡ Some e.schedule → key.items ≡ outcome_form e.outcome
-      → ((p : code_parts.Parts) → ArePartsAt i e.schedule p → outcome_held at p ≡ e.outcome)
+      → outcome_held at (leads_to i e.schedule).core (groups_of (start i).core) ≡ e.outcome
       → g.ends.entries ≡ insert_entry (λ a b. pointwise nat_eq a.items b.items) f.ends.entries key (tally_after at (index.get (λ a b. pointwise nat_eq a.items b.items) f.ends key))
       → IsUnique (λ a b. pointwise nat_eq a.items b.items) g.ends → AreNoted i list (ends ++ e ∷ []) g
   ended_next key h first form held entries unique = record {

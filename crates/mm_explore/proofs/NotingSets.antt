@@ -5,14 +5,13 @@ use Rattle.std.proofs.lemmas.List.{length-map}
 use Rattle.std.proofs.lemmas.List.Elements.{Contains-append_right}
 use Rattle.std.specs.{Prelude.{Contains, Some, slice_get}, List.{AllZip}}
 use Rattle.mm_model.proofs.CoreRows.{each_push}
-use Rattle.mm_model.specs.{Flags.flags, Image.Image}
+use Rattle.mm_model.specs.{Flags.flags, Image.{Image, start}, Report.groups_of, State.Core}
 use Rattle.mm_span.proofs.Members.{in_first}
 use Rattle.mm_explore.specs.declared.{explored.Ending.TheVariants.Endless, findings.Findings.Findings, search.Search.Search}
-use Rattle.mm_explore.specs.{Benches.ArePartsAt, Closed.{IsFirstEndless}, Findings.IsFinal, Noting.{AreNoted, outcome_held}}
+use Rattle.mm_explore.specs.{Closed.{IsFirstEndless}, Explored.leads_to, Findings.IsFinal, Noting.{AreNoted, outcome_held}}
 use Rattle.mm_explore.specs.Outcomes.{End, Selects, SelectsEndless, IsOutcome, IsEnding, AreEndsOf, slots_at}
 use Rattle.mm_explore.specs.Searching.{Ended, AreBusyBy, IsBusySet, AreBusySets, HasEnds}
-use Rattle.mm_explore.proofs.{FoundForms.map_push, HeldEnds.outcome_so, Selections.is_selected}
-use Rattle.mm_explore.specs.declared.parts.Parts as code
+use Rattle.mm_explore.proofs.{Spelled.map_push, HeldEnds.outcome_so, Selections.is_selected}
 use Rattle.mm_explore.specs.declared.ends.End as code_end
 
 -- the ends of a list were noted, but for those of the endless sets that are left
@@ -100,11 +99,11 @@ module _ (i : Image) (list : List (List ℕ)) (f : Findings) (now : List (ℕ ×
         subst (λ l. Contains l next.at) (sym (h.split ∙ ap (λ l. h.done ++ l) next.is)) (Contains-append_right h.done (next.at ∷ next.later) next.at (in_first next.at next.later)) in
         (is_selected (IsFirstEndless i) list h.firsts h.endless next.at inside).1
 
-    pub set_noted : (g : Findings) (e : code_end.End) (p : code.Parts) → e.ending ≡ Endless → e.busy ≡ entry.1 → ArePartsAt i next_at p
-        → AreNoted i list (h.ends ++ (record { schedule = next_at; outcome = outcome_held e p }) ∷ []) g → SetsLeft i list g rest
-    set_noted g e p ending busy parts noted =
+    pub set_noted : (g : Findings) (e : code_end.End) (core : Core) (groups : List ℕ) → e.ending ≡ Endless → e.busy ≡ entry.1 → core ≡ (leads_to i next_at).core → groups ≡ groups_of (start i).core
+        → AreNoted i list (h.ends ++ (record { schedule = next_at; outcome = outcome_held e core groups }) ∷ []) g → SetsLeft i list g rest
+    set_noted g e core groups ending busy is_core is_groups noted =
         let t = next.at in
-        let x : End = record { schedule = t; outcome = outcome_held e p } in
+        let x : End = record { schedule = t; outcome = outcome_held e core groups } in
         let is_ending : IsEnding i t e.ending = subst (IsEnding i t) (sym ending) next_first.endless in
         let is_busy : AreBusyBy i t 0 (flags (length (slots_at i t)) e.busy) = subst (λ n. AreBusyBy i t 0 (flags (length (slots_at i t)) n)) (sym busy) next.busy.slots in
         record {
@@ -118,13 +117,13 @@ module _ (i : Image) (list : List (List ℕ)) (f : Findings) (now : List (ℕ ×
           ends = h.ends ++ x ∷ [];
           of = record {
             schedules = map_push (λ (y : End). y.schedule) h.ends x ∙ ap (λ l. l ++ t ∷ []) h.of.schedules ∙ append_assoc h.finals h.done (t ∷ []);
-            outcomes = each_push (λ (y : End). IsOutcome i y.schedule y.outcome) h.ends x h.of.outcomes (outcome_so i t e p parts is_ending is_busy);
+            outcomes = each_push (λ (y : End). IsOutcome i y.schedule y.outcome) h.ends x h.of.outcomes (outcome_so i t e core groups is_core is_groups is_ending is_busy);
           };
           noted = noted;
           stand = next.stand;
         }
 
-  pub sets_end : (s : Search) → s.all ≡ true → s.found.list ≡ list → s.findings ≡ f → now ≡ [] → HasEnds i s
+  pub sets_end : (s : Search) → s.all ≡ true → s.found ≡ list → s.findings ≡ f → now ≡ [] → HasEnds i s
   sets_end s all same findings none =
       let gone = none_left i list h.left (subst (AllZip (IsBusySet i list) h.left) none h.stand) in
       let whole : h.done ≡ h.firsts = sym (h.split ∙ ap (λ l. h.done ++ l) gone ∙ append-nil h.done) in
@@ -135,13 +134,13 @@ module _ (i : Image) (list : List (List ℕ)) (f : Findings) (now : List (ℕ ×
           finals = h.finals;
           final = subst (λ l. Selects (IsFinal i) l h.finals) (sym same) h.final;
           firsts = h.firsts;
-          endless = subst (λ b. SelectsEndless b i s.found.list h.firsts) (sym all) (subst (λ l. Selects (IsFirstEndless i) l h.firsts) (sym same) h.endless);
+          endless = subst (λ b. SelectsEndless b i s.found h.firsts) (sym all) (subst (λ l. Selects (IsFirstEndless i) l h.firsts) (sym same) h.endless);
           are = subst (λ l. AreEndsOf i (h.finals ++ l) h.ends) whole h.of;
         };
       }
 
 -- a search whose list is not all tells of no endless sets
-pub finals_end : (i : Image) (s : Search) → s.all ≡ false → Ended i s.found.list s.found.list s.findings → HasEnds i s
+pub finals_end : (i : Image) (s : Search) → s.all ≡ false → Ended i s.found s.found s.findings → HasEnds i s
 finals_end i s more e = record {
   ends = e.ends;
   noted = e.noted;
@@ -149,7 +148,7 @@ finals_end i s more e = record {
     finals = e.finals;
     final = e.are;
     firsts = [];
-    endless = subst (λ b. SelectsEndless b i s.found.list []) (sym more) refl;
+    endless = subst (λ b. SelectsEndless b i s.found []) (sym more) refl;
     are = subst (λ l. AreEndsOf i l e.ends) (sym (append-nil e.finals)) e.of;
   };
 }

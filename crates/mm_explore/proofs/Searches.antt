@@ -6,7 +6,7 @@ use Rattle.std.proofs.lemmas.List.Elements.{Contains-push_cases}
 use Rattle.std.specs.{Prelude.Contains, List.{AllByRecursion, flat_map}}
 use Rattle.mm_model.{proofs.CoreRows.each_push, specs.{Image.{Image, start}, Spelling.IsImage, Run.run}}
 use Rattle.mm_span.specs.Pairs.{EachPair}
-use Rattle.mm_explore.specs.Configurations.{moves}
+use Rattle.mm_explore.specs.Moves.{moves}
 use Rattle.mm_explore.specs.Schedules.{Before}
 use Rattle.mm_explore.specs.Explored.{leads_to, IsLeast, IsAll}
 use Rattle.mm_explore.specs.Findings.{Extension, extended, extensions, explored_turns}

@@ -6,10 +6,16 @@ use Rattle.mm_model.proofs.TurnChanges.{OutputMoves, turn_changes}
 use Rattle.mm_model.specs.{Fits.{slots_of, identity_of}, Image.{Image, start}, Report.groups_of, Run.{after, run}, Slot.Slot}
 use Rattle.mm_model.specs.{Spelling.IsImage, State.{State, output_of}, Turn.turn}
 use Rattle.mm_explore.specs.declared.explored.{Ending.{Ending, TheVariants.{Ended, Stuck, Endless}}, Standing.{Standing, TheVariants.{Busy, In}}}
-use Rattle.mm_explore.specs.{Closed.{LeadsOn, IsAtEnd}, Configurations.{uncounted_slot, moves}, Explored.leads_to}
+use Rattle.mm_explore.specs.Closed.{LeadsOn, IsAtEnd}
+use Rattle.mm_config.specs.Configurations.{uncounted_slot}
+use Rattle.mm_explore.specs.Moves.{moves}
+use Rattle.mm_explore.specs.Explored.{leads_to}
 use Rattle.mm_explore.specs.{Findings.IsFinal, Laws.OutcomesAreOfSets}
 use Rattle.mm_explore.specs.Outcomes.{Outcome, IsEnding, IsStanding, AreStanding, IsOutcome, IsSteady, slots_at}
-use Rattle.mm_explore.proofs.{Coverings.{alike}, Goings.same_outputs, HeldEnds.slots_bare, KeptRuns.runs_state_of}
+use Rattle.mm_explore.proofs.Coverings.{alike}
+use Rattle.mm_explore.proofs.Goings.{same_outputs}
+use Rattle.mm_explore.proofs.HeldEnds.{slots_bare}
+use Rattle.mm_config.proofs.States.{runs_state_of}
 use Rattle.mm_explore.proofs.ClosedSets.{all_alike, ends_back, end_led, final_stays_all, final_like}
 use Rattle.mm_span.proofs.Members.{none_in}
 

@@ -7,7 +7,8 @@ use Rattle.indexmap.specs.IndexMap.{insert_entry}
 use Rattle.mm_model.specs.{Flags.flags, Image.Image, Slot.Slot}
 use Rattle.mm_span.{specs.Pairs.EachPair, proofs.Members.{none_in, in_first, in_rest, in_cases, all_at}}
 use Rattle.mm_explore.specs.{Closed.{LeadsOn, IsEndless, IsFirstEndless}, Explored.IsExplored, Outcomes.slots_at, Schedules.Before}
-use Rattle.mm_explore.specs.Searching.{IsSeenBy, AreSeenBy, IsSetSeen, AreSetsSeen, IsApartBy, AreApart}
+use Rattle.mm_explore.specs.Searching.{IsSeenBy, AreSeenBy, IsSetSeen, AreSetsSeen}
+use Rattle.mm_config.specs.Machines.{IsApartBy, AreApart}
 use Rattle.mm_explore.proofs.{AllFound.at_index, ClosedSets.{end_led, ends_back, final_like, final_stays_all, on_trans}, FirstOnes.index_one, Orders.{before_self, before_cases}}
 use Rattle.mm_explore.proofs.{Selections.{selected, is_selected, selected_in_order, select_skip, select_more}, Steps.{take_one, get_inside, zip_push}}
 use Rattle.mm_explore.proofs.GraphRuns.{ascends}

@@ -4,25 +4,24 @@ use Rattle.std.proofs.Common.{◌∷◌, ◌++◌, map, length, take, drop, slic
 use Rattle.std.proofs.{Common.{append_assoc, append-nil, length-append}, Math.Dec.eqb-suc-zero, lemmas.{Bool.both_ways, List.length-map, Option.slice_get_within}}
 use Rattle.std.specs.Prelude.{◌==◌, Contains, Some, slice_get, Result, Ok, Err, IfOk, OnOk}
 use Rattle.std.specs.List.{AllByRecursion, AllZip, flat_map}
+use Rattle.mm_config.specs.declared.configs.{Configs.Configs, Looked.{Looked, TheVariants.{Known, New, Full}}}
+use Rattle.mm_config.specs.{Configurations.{configuration, uncounted}, Keeping.Stands, Machines.{Configs as ConfigsValue, Keeps, AreApart}}
 use Rattle.mm_model.proofs.CoreRows.{each_push}
-use Rattle.mm_model.specs.{Limits.state_limit, Fits.slots_of, Image.{Image, start}, Slot.Slot, Report.groups_of, Spelling.IsImage, Run.run}
-use Rattle.mm_explore.proofs.{FoundForms.map_push, Keepables.parts_again}
-use Rattle.mm_explore.proofs.KeptRuns.{kept_alike, kept_apart, runs_state_of}
+use Rattle.mm_model.specs.{declared.step.Step.Step, Fits.slots_of, Flags.flags, Limits.state_limit, Image.{Image, start}, Report.groups_of, Spelling.IsImage}
+use Rattle.mm_model.specs.{State.{Core, State, slot_at}, Run.{after, run, turn_of}, Trace.group_of}
 use Rattle.mm_span.{specs.Pairs.EachPair, proofs.Members.{in_map, map_in, all_at}}
 use Rattle.mm_explore.proofs.AllFound.{at_index}
-use Rattle.mm_explore.proofs.{MoveForms.{moves_are, small_numbers}, Notings.{noted_more, ended_more, children_more, graph_more}}
+use Rattle.mm_explore.proofs.{Notings.{noted_more, ended_more, ended_skip, children_more, graph_more}, Spelled.map_push}
 use Rattle.mm_explore.proofs.Searches.{IsNew, search_begins, search_known, search_new, search_full, search_ends}
-use Rattle.mm_explore.proofs.{FirstOnes.index_one, Orders.before_cases, Selections.select_more}
-use Rattle.mm_explore.specs.declared.found.{Looked.{Looked, TheVariants.{Known, New, Full}}, Origin.Origin}
-use Rattle.mm_explore.specs.declared.{search.{Node.Node, Search.Search}, bench.Bench.Bench, findings.Findings.Findings}
-use Rattle.mm_explore.specs.Benches.{IsAtConfiguration, ArePartsAt, parts_held}
-use Rattle.mm_explore.specs.{Configurations.{uncounted_slot, moves}, Explored.{leads_to, IsLeast, IsExplored, IsAll}, Schedules.Before}
+use Rattle.mm_explore.proofs.{HeldEnds.slots_count, FirstOnes.index_one, Orders.before_cases, Selections.select_more}
+use Rattle.mm_explore.specs.declared.{findings.Findings.Findings, found.Origin.Origin, search.{Made.Made, Search.Search}}
+use Rattle.mm_explore.specs.Laws.{GoesOnAlike}
+use Rattle.mm_explore.proofs.{Coverings.leads_more, Goings.{configurations_go_on, group_bare}, Uncounted.uncounted_again}
+use Rattle.mm_explore.specs.{Moves.moves, Explored.{leads_to, IsLeast, IsExplored, IsAll}, Schedules.Before}
 use Rattle.mm_explore.specs.Findings.{Extension, extended, extensions, explored_turns, IsFinal, are_none}
-use Rattle.mm_explore.specs.{FoundLists.{FoundList, led_by, Holds, Looks}, Kept.{Parts, parts_of, parts_from, kept}}
-use Rattle.mm_explore.specs.{MoveLists.moves_in, Noting.{Noted, AreNoted}, Outcomes.{Outcome, End, IsOutcome, Selects}}
-use Rattle.mm_explore.specs.Searching.{GoesOn, IsFull, IsChild, IsGraph, Ended, HasCome, IsBefore, IsWithin, node_schedule, turns_before}
-use Rattle.mm_explore.specs.Searching.{turns_from, StaysBy, AllStay, index_of, Met}
-use Rattle.mm_explore.specs.declared.parts.Parts as code
+use Rattle.mm_explore.specs.{FoundLists.{led_by, with_configs, IsAt, HasKept, Looks}, Noting.{Noted, AreNoted}, Outcomes.{Outcome, End, IsOutcome, Selects, slots_at}}
+use Rattle.mm_explore.specs.Searching.{GoesOn, IsFull, IsChild, IsGraph, Ended, HasCome, IsBefore, IsWithin, schedule_at, turns_before}
+use Rattle.mm_explore.specs.Searching.{turns_from, StaysBy, AllStay, index_of, IsMade, Makes, Met, IsNotedIfFinal}
 
 -- 1. Lists up to an index and from it on.
 
@@ -168,74 +167,41 @@ module _ (i : Image) (img : IsImage i) (limit : ℕ) (list : List (List ℕ)) (d
   goes_full true o new full = record { searched = search_full i img limit list done x left o new full; split = o.split ∙ sym (append_assoc done (x ∷ []) left); full = full }
   goes_full false h new full = full_next h
 
--- 4. What the numbers tell.
+pub list_few : (i : Image) (all : Bool) (limit : ℕ) (list : List (List ℕ)) (done left : List Extension) → GoesOn all i limit list done left → length list ≤ limit
+list_few i true limit list done left o = o.few
+list_few i false limit list done left h = let full = h.full in omega (arith, full)
 
-module _ (i : Image) (img : IsImage i) (f : FoundList) (held : Holds i f) (t : List ℕ) where
-  abbrev form_of : List ℕ → List ℕ
-  form_of u = kept i (run (start i) u)
+-- 4. What a look-up tells.
 
-  pub apart : (u : List ℕ) → form_of u ≡ form_of t → leads_to i u ≡ leads_to i t
-  apart u e = kept_apart i (run (start i) u) (run (start i) t) img (runs_state_of i u img) (runs_state_of i t img) e
+known_leads : (i : Image) (list : List (List ℕ)) (t : List ℕ) → Contains (map (leads_to i) list) (leads_to i t) → (v : List ℕ) × Contains list v × (leads_to i v ≡ leads_to i t)
+known_leads i list t inside =
+    let from = map_in (leads_to i) list (leads_to i t) inside in
+    (from.source, from.inside, from.gives)
 
-  known_leads : Contains f.forms (form_of t) → (v : List ℕ) × Contains f.list v × (leads_to i v ≡ leads_to i t)
-  known_leads inside =
-      let from = map_in form_of f.list (form_of t) (subst (λ l. Contains l (form_of t)) held inside) in
-      (from.source, from.inside, apart from.source from.gives)
-
-  new_leads : (Contains f.forms (form_of t) → ⊥) → IsNew i f.list t
-  new_leads none v inside same =
-      none (subst (λ l. Contains l (form_of t)) (sym held) (subst (Contains (map form_of f.list)) (kept_alike i (run (start i) v) (run (start i) t) same) (in_map form_of f.list v inside)))
-
-module _ (i : Image) (img : IsImage i) (f : FoundList) (held : Holds i f) (at : ℕ) (inside : at < length f.list) where
-  forms_at : slice_get f.forms at ≡ Some (kept i (run (start i) (slice_index_or f.list at [])))
-  forms_at =
-      let form : List ℕ → List ℕ = λ u. kept i (run (start i) u) in
-      let long = length-map f.list form in
-      subst (λ l. slice_get l at ≡ Some (form (slice_index_or f.list at []))) (sym held)
-      (get_inside (map form f.list) at [] (omega (arith, long, inside)) ∙ ap Some (map_at form f.list at [] [] inside))
-
--- the numbers at an index of the list
-pub numbers_at : (i : Image) (f : FoundList) → Holds i f → (at : ℕ) → at < length f.list → (numbers : List ℕ) → slice_get f.forms at ≡ Some numbers
-    → numbers ≡ kept i (run (start i) (slice_index_or f.list at []))
-numbers_at i f held at inside numbers e =
-    let form : List ℕ → List ℕ = λ u. kept i (run (start i) u) in
-    let long = length-map f.list form in
-    let is : slice_get f.forms at ≡ Some (form (slice_index_or f.list at [])) =
-    subst (λ l. slice_get l at ≡ Some (form (slice_index_or f.list at []))) (sym held)
-    (get_inside (map form f.list) at [] (omega (arith, long, inside)) ∙ ap Some (map_at form f.list at [] [] inside)) in
-    let two : Some numbers ≡ Some (form (slice_index_or f.list at [])) = sym e ∙ is in
-    cc
+new_leads : (i : Image) (list : List (List ℕ)) (t : List ℕ) → (Contains (map (leads_to i) list) (leads_to i t) → ⊥) → IsNew i list t
+new_leads i list t none v inside same = none (subst (Contains (map (leads_to i) list)) same (in_map (leads_to i) list v inside))
 
 -- 5. What a look-up leaves.
 
-pub record Grown (f now : FoundList) : Type 0 where
+pub record Grown (list now : List (List ℕ)) : Type 0 where
   pub more : List (List ℕ)
-  pub list : now.list ≡ f.list ++ more
-  pub limit : now.limit ≡ f.limit
+  pub list : now ≡ list ++ more
 
-grown : (looked : Looked) (numbers : List ℕ) (o : Origin) (f now : FoundList) → Looks looked numbers o f now → Grown f now
-grown (Known c) numbers o f now h = record { more = []; list = ap (λ (g : FoundList). g.list) h.1 ∙ sym (append-nil f.list); limit = ap (λ (g : FoundList). g.limit) h.1 }
-grown New numbers o f now h = record { more = led_by f.list o ∷ []; list = ap (λ (g : FoundList). g.list) h.2; limit = ap (λ (g : FoundList). g.limit) h.2 }
-grown Full numbers o f now h = record { more = []; list = ap (λ (g : FoundList). g.list) h.2 ∙ sym (append-nil f.list); limit = ap (λ (g : FoundList). g.limit) h.2 }
+grown : (i : Image) (limit : ℕ) (looked : Looked) (o : Origin) (list now : List (List ℕ)) → Looks i limit looked o list now → Grown list now
+grown i limit (Known c) o list now h = record { more = []; list = h.1 ∙ sym (append-nil list) }
+grown i limit New o list now h = record { more = led_by list o ∷ []; list = h.2 }
+grown i limit Full o list now h = record { more = []; list = h.2 ∙ sym (append-nil list) }
 
-held_more : (i : Image) (looked : Looked) (t : List ℕ) (o : Origin) (f now : FoundList) → led_by f.list o ≡ t → Holds i f → Looks looked (kept i (run (start i) t)) o f now → Holds i now
-held_more i (Known c) t o f now led held h = subst (Holds i) (sym h.1) held
-held_more i Full t o f now led held h = subst (Holds i) (sym h.2) held
-held_more i New t o f now led held h =
-    let form : List ℕ → List ℕ = λ u. kept i (run (start i) u) in
-    subst (Holds i) (sym h.2)
-    (ap (λ l. l ++ form t ∷ []) held ∙ ap (λ u. map form f.list ++ form u ∷ []) (sym led) ∙ sym (map_push form f.list (led_by f.list o)))
-
--- what numbers are at an index of the forms, the schedule at that index has them
-pub record HasForm (i : Image) (list : List (List ℕ)) (c : ℕ) (numbers : List ℕ) : Type 0 where
+-- the schedule at an index leads to the configuration there
+pub record HasConfig (i : Image) (list : List (List ℕ)) (c : ℕ) (s : State) : Type 0 where
   pub schedule : List ℕ
   pub at : slice_get list c ≡ Some schedule
-  pub form : kept i (run (start i) schedule) ≡ numbers
+  pub leads : leads_to i schedule ≡ s
 
-has_form : (i : Image) (list : List (List ℕ)) (c : ℕ) (numbers : List ℕ) → slice_get (map (λ u. kept i (run (start i) u)) list) c ≡ Some numbers → HasForm i list c numbers
-has_form i [] c numbers e = cc
-has_form i (t ∷ list) zero numbers e = record { schedule = t; at = refl; form = cc }
-has_form i (t ∷ list) (suc c) numbers e = let k = has_form i list c numbers e in record { schedule = k.schedule; at = k.at; form = k.form }
+has_config : (i : Image) (list : List (List ℕ)) (c : ℕ) (s : State) → slice_get (map (leads_to i) list) c ≡ Some s → HasConfig i list c s
+has_config i [] c s e = cc
+has_config i (t ∷ list) zero s e = record { schedule = t; at = refl; leads = cc }
+has_config i (t ∷ list) (suc c) s e = let k = has_config i list c s e in record { schedule = k.schedule; at = k.at; leads = k.leads }
 
 get_in : {X : Type 0} (xs : List X) (k : ℕ) (x : X) → slice_get xs k ≡ Some x → Contains xs x
 get_in [] k x e = cc
@@ -246,25 +212,21 @@ get_last : {X : Type 0} (xs : List X) (x : X) → slice_get (xs ++ x ∷ []) (le
 get_last [] x = refl
 get_last (y ∷ xs) x = get_last xs x
 
--- where the look-up of the numbers of a move's configuration is, the move leads
-child_of : (i : Image) → IsImage i → (looked : Looked) (c : ℕ) (s t : List ℕ) (m : ℕ) (o : Origin) (f now : FoundList) → t ++ m ∷ [] ≡ s → led_by f.list o ≡ s → Holds i f
-    → Looks looked (kept i (run (start i) s)) o f now → Some c ≡ index_of looked f → IsChild i now.list t m c
-child_of i img (Known a) c s t m o f now e led held h is =
+-- where the look-up of a move's configuration is, the move leads
+child_of : (i : Image) (limit : ℕ) (looked : Looked) (c : ℕ) (t : List ℕ) (m : ℕ) (o : Origin) (list now : List (List ℕ)) → led_by list o ≡ t ++ m ∷ []
+    → Looks i limit looked o list now → Some c ≡ index_of looked list → IsChild i now t m c
+child_of i limit (Known a) c t m o list now led h is =
     let same : c ≡ a = cc in
-    let k = has_form i f.list a (kept i (run (start i) s)) (subst (λ l. slice_get l a ≡ Some (kept i (run (start i) s))) held h.0) in
+    let k = has_config i list a (leads_to i (led_by list o)) h.0 in
+    record { schedule = k.schedule; at = ap (slice_get now) same ∙ ap (λ l. slice_get l a) h.1 ∙ k.at; leads = k.leads ∙ ap (leads_to i) led }
+child_of i limit New c t m o list now led h is =
+    let same : c ≡ length list = cc in
     record {
-      schedule = k.schedule;
-      at = ap (slice_get now.list) same ∙ ap (λ (g : FoundList). slice_get g.list a) h.1 ∙ k.at;
-      leads = kept_apart i (run (start i) k.schedule) (run (start i) s) img (runs_state_of i k.schedule img) (runs_state_of i s img) k.form ∙ ap (leads_to i) (sym e);
+      schedule = led_by list o;
+      at = ap (slice_get now) same ∙ ap (λ l. slice_get l (length list)) h.2 ∙ get_last list (led_by list o);
+      leads = ap (leads_to i) led;
     }
-child_of i img New c s t m o f now e led held h is =
-    let same : c ≡ length f.list = cc in
-    record {
-      schedule = led_by f.list o;
-      at = ap (slice_get now.list) same ∙ ap (λ (g : FoundList). slice_get g.list (length f.list)) h.2 ∙ get_last f.list (led_by f.list o);
-      leads = ap (leads_to i) (led ∙ sym e);
-    }
-child_of i img Full c s t m o f now e led held h is = cc
+child_of i limit Full c t m o list now led h is = cc
 
 -- whether there was room for all, after a look-up
 abbrev pub all_after : Bool → Option ℕ → Bool
@@ -276,41 +238,45 @@ abbrev pub child_more : List ℕ → Option ℕ → List ℕ
 child_more row (Some c) = row ++ c ∷ []
 child_more row None = row
 
-module _ (i : Image) (img : IsImage i) (f now : FoundList) (held : Holds i f) (at k : ℕ) (inside : at < length f.list) (x : Extension) (o : Origin) (led : led_by f.list o ≡ extended x)
-    (ahead : turns_from i f.list at k ≡ x ∷ turns_from i f.list at (k + 1)) (made : turns_before i f.list at (k + 1) ≡ turns_before i f.list at k ++ x ∷ []) where
-  abbrev ComesTo : FoundList → Bool → Type 0
-  ComesTo g all = GoesOn all i g.limit g.list (turns_before i g.list at (k + 1)) (turns_from i g.list at (k + 1))
+module _ (i : Image) (img : IsImage i) (limit : ℕ) (list now : List (List ℕ)) (at k : ℕ) (inside : at < length list) (x : Extension) (o : Origin) (led : led_by list o ≡ extended x)
+    (ahead : turns_from i list at k ≡ x ∷ turns_from i list at (k + 1)) (made : turns_before i list at (k + 1) ≡ turns_before i list at k ++ x ∷ []) where
+  abbrev ComesTo : List (List ℕ) → Bool → Type 0
+  ComesTo l all = GoesOn all i limit l (turns_before i l at (k + 1)) (turns_from i l at (k + 1))
 
   abbrev done : List Extension
-  done = turns_before i f.list at k
+  done = turns_before i list at k
 
   abbrev left : List Extension
-  left = turns_from i f.list at (k + 1)
+  left = turns_from i list at (k + 1)
 
-  comes_to : (looked : Looked) (all : Bool) → GoesOn all i f.limit f.list (turns_before i f.list at k) (turns_from i f.list at k)
-      → Looks looked (kept i (run (start i) (extended x))) o f now → ComesTo now (all_after all (index_of looked f))
+  comes_to : (looked : Looked) (all : Bool) → GoesOn all i limit list (turns_before i list at k) (turns_from i list at k)
+      → Looks i limit looked o list now → ComesTo now (all_after all (index_of looked list))
   comes_to looked all goes h = by looked h
     where
-      next : GoesOn all i f.limit f.list done (x ∷ left)
-      next = subst (GoesOn all i f.limit f.list done) ahead goes
+      next : GoesOn all i limit list done (x ∷ left)
+      next = subst (GoesOn all i limit list done) ahead goes
 
-      by : (l : Looked) → Looks l (kept i (run (start i) (extended x))) o f now → ComesTo now (all_after all (index_of l f))
+      new : (Contains (map (leads_to i) list) (leads_to i (led_by list o)) → ⊥) → IsNew i list (extended x)
+      new none = new_leads i list (extended x) (subst (λ u. Contains (map (leads_to i) list) (leads_to i u) → ⊥) led none)
+
+      by : (l : Looked) → Looks i limit l o list now → ComesTo now (all_after all (index_of l list))
       by (Known c) h =
-          let v = known_leads i img f held (extended x) (get_in f.forms c (kept i (run (start i) (extended x))) h.0) in
-          subst (λ g. ComesTo g all) (sym h.1) (subst (λ l. GoesOn all i f.limit f.list l left) (sym made) (goes_known i img f.limit f.list done x left all next v.0 v.1 v.2))
+          let v = known_leads i list (led_by list o) (get_in (map (leads_to i) list) c (leads_to i (led_by list o)) h.0) in
+          subst (λ l. ComesTo l all) (sym h.1)
+          (subst (λ d. GoesOn all i limit list d left) (sym made) (goes_known i img limit list done x left all next v.0 v.1 (v.2 ∙ ap (leads_to i) led)))
       by Full h =
-          subst (λ g. ComesTo g false) (sym h.2)
-          (subst (λ l. IsFull i f.limit f.list l left) (sym made) (goes_full i img f.limit f.list done x left all next (new_leads i img f held (extended x) h.0) h.1))
+          let few = list_few i all limit list done (x ∷ left) next in
+          let most = h.1 in
+          subst (λ l. ComesTo l false) (sym h.2)
+          (subst (λ d. IsFull i limit list d left) (sym made) (goes_full i img limit list done x left all next (new h.0) (omega (arith, few, most))))
       by New h =
-          let list = f.list ++ extended x ∷ [] in
-          let went = goes_new i img f.limit f.list done x left all next (new_leads i img f held (extended x) h.0) h.1 in
-          let before : done ++ x ∷ [] ≡ turns_before i list at (k + 1) = sym made ∙ sym (before_more i f.list (extended x ∷ []) at inside (k + 1)) in
-          let after : left ++ extensions i (extended x) ≡ turns_from i list at (k + 1) = sym (from_push i f.list (extended x) at (k + 1) inside) in
-          let there : GoesOn all i f.limit list (turns_before i list at (k + 1)) (turns_from i list at (k + 1)) =
-          subst (λ l. GoesOn all i f.limit list l (turns_from i list at (k + 1))) before (subst (GoesOn all i f.limit list (done ++ x ∷ [])) after went) in
-          let as_led : GoesOn all i f.limit (f.list ++ led_by f.list o ∷ []) (turns_before i (f.list ++ led_by f.list o ∷ []) at (k + 1)) (turns_from i (f.list ++ led_by f.list o ∷ []) at (k + 1)) =
-          subst (λ u. GoesOn all i f.limit (f.list ++ u ∷ []) (turns_before i (f.list ++ u ∷ []) at (k + 1)) (turns_from i (f.list ++ u ∷ []) at (k + 1))) (sym led) there in
-          subst (λ g. ComesTo g all) (sym h.2) as_led
+          let longer = list ++ extended x ∷ [] in
+          let went = goes_new i img limit list done x left all next (new h.0) h.1 in
+          let before : done ++ x ∷ [] ≡ turns_before i longer at (k + 1) = sym made ∙ sym (before_more i list (extended x ∷ []) at inside (k + 1)) in
+          let after : left ++ extensions i (extended x) ≡ turns_from i longer at (k + 1) = sym (from_push i list (extended x) at (k + 1) inside) in
+          let there : ComesTo longer all =
+          subst (λ d. GoesOn all i limit longer d (turns_from i longer at (k + 1))) before (subst (GoesOn all i limit longer (done ++ x ∷ [])) after went) in
+          subst (λ l. ComesTo l all) (sym (h.2 ∙ ap (λ u. list ++ u ∷ []) led)) there
 
 pub zip_push : {A B : Type 0} (R : A → B → Type 0) (xs : List A) (ys : List B) (x : A) (y : B) → AllZip R xs ys → R x y → AllZip R (xs ++ x ∷ []) (ys ++ y ∷ [])
 zip_push R [] [] x y h k = (k, tt)
@@ -346,211 +312,156 @@ one_index i list k a b s t at_a at_b e =
     ] in
     index_one list k.in_order a b la lb (at_index list a s [] at_a ∙ same ∙ sym (at_index list b t [] at_b))
 
-module _ (i : Image) (img : IsImage i) (s : Search) (at : ℕ) (inside : at < length s.found.list) (held : Holds i s.found) (k : IsListed i s.found.list) where
+module _ (i : Image) (limit : ℕ) (list : List (List ℕ)) (at : ℕ) (inside : at < length list) (k : IsListed i list) where
   abbrev t : List ℕ
-  t = slice_index_or s.found.list at []
+  t = slice_index_or list at []
 
-  at_here : slice_get s.found.list at ≡ Some t
-  at_here = get_inside s.found.list at [] inside
+  at_here : slice_get list at ≡ Some t
+  at_here = get_inside list at [] inside
 
-  kept_there : (m : ℕ) → leads_to i (t ++ m ∷ []) ≡ leads_to i t → Contains s.found.forms (kept i (run (start i) (t ++ m ∷ [])))
-  kept_there m e =
-      let form : List ℕ → List ℕ = λ u. kept i (run (start i) u) in
-      subst (λ l. Contains l (form (t ++ m ∷ []))) (sym held)
-      (subst (Contains (map form s.found.list)) (kept_alike i (run (start i) t) (run (start i) (t ++ m ∷ [])) (sym e)) (in_map form s.found.list t (get_in s.found.list at t at_here)))
+  kept_there : (m : ℕ) → leads_to i (t ++ m ∷ []) ≡ leads_to i t → Contains (map (leads_to i) list) (leads_to i (t ++ m ∷ []))
+  kept_there m e = subst (Contains (map (leads_to i) list)) (sym e) (in_map (leads_to i) list t (get_in list at t at_here))
 
-  stays_so : (looked : Looked) (m : ℕ) (o : Origin) (now : FoundList) → Looks looked (kept i (run (start i) (t ++ m ∷ []))) o s.found now → StaysBy (leads_back at (index_of looked s.found)) i t m
-  stays_so (Known c) m o now h = by (c == at) refl
+  stays_so : (looked : Looked) (m : ℕ) (now : List (List ℕ)) → Looks i limit looked (record { from = at; item = m }) list now → StaysBy (leads_back at (index_of looked list)) i t m
+  stays_so (Known c) m now h = by (c == at) refl
     where
-      form : HasForm i s.found.list c (kept i (run (start i) (t ++ m ∷ [])))
-      form = has_form i s.found.list c (kept i (run (start i) (t ++ m ∷ []))) (subst (λ l. slice_get l c ≡ Some (kept i (run (start i) (t ++ m ∷ [])))) held h.0)
-
-      leads : leads_to i form.schedule ≡ leads_to i (t ++ m ∷ [])
-      leads = kept_apart i (run (start i) form.schedule) (run (start i) (t ++ m ∷ [])) img (runs_state_of i form.schedule img) (runs_state_of i (t ++ m ∷ []) img) form.form
+      there : HasConfig i list c (leads_to i (t ++ m ∷ []))
+      there = has_config i list c (leads_to i (t ++ m ∷ [])) h.0
 
       by : (b : Bool) → (c == at) ≡ b → StaysBy b i t m
       by true e =
           let same = eqb-true c at e in
-          let two : Some form.schedule ≡ Some t = sym form.at ∙ ap (slice_get s.found.list) same ∙ at_here in
-          let is : form.schedule ≡ t = cc in
-          sym leads ∙ ap (leads_to i) is
+          let two : Some there.schedule ≡ Some t = sym there.at ∙ ap (slice_get list) same ∙ at_here in
+          let is : there.schedule ≡ t = cc in
+          sym there.leads ∙ ap (leads_to i) is
       by false e = λ back.
-          let same = one_index i s.found.list k c at form.schedule t form.at at_here (leads ∙ back) in
+          let same = one_index i list k c at there.schedule t there.at at_here (there.leads ∙ back) in
           both_ways (c == at) e (eq-eqb c at same)
-  stays_so New m o now h = by (length s.found.list == at) refl
+  stays_so New m now h = by (length list == at) refl
     where
-      by : (b : Bool) → (length s.found.list == at) ≡ b → StaysBy b i t m
-      by true e = let same = eqb-true (length s.found.list) at e in absurd (omega (arith, same, inside))
+      by : (b : Bool) → (length list == at) ≡ b → StaysBy b i t m
+      by true e = let same = eqb-true (length list) at e in absurd (omega (arith, same, inside))
       by false e = λ back. h.0 (kept_there m back)
-  stays_so Full m o now h = λ back. h.0 (kept_there m back)
+  stays_so Full m now h = λ back. h.0 (kept_there m back)
 
--- 6. A move of a node.
+-- 6. A move.
 
--- the turn of a move of a node
-abbrev pub node_turn : Search → Node → ℕ → Extension
-node_turn s node k = record { schedule = node_schedule s node; item = slice_index_or node.moves.items k 0 }
+-- the turn of a move of the configuration at an index
+abbrev pub turn_at_index : Search → ℕ → ℕ → Extension
+turn_at_index s at k = record { schedule = schedule_at s at; item = slice_index_or s.moves.items k 0 }
 
-pub record Made (i : Image) (s now : Search) (node : Node) (k : ℕ) : Type 0 where
-  pub within : IsWithin i now node (k + 1)
-  pub schedule : node_schedule now node ≡ node_schedule s node
-  pub limit : now.found.limit ≡ s.found.limit
+module _ (i : Image) (s : Search) (at k : ℕ) (w : IsWithin i s at k) (move : k < length s.moves.items) where
+  abbrev x : Extension
+  x = turn_at_index s at k
 
-module _ (i : Image) (img : IsImage i) (s : Search) (node : Node) (k : ℕ) (w : IsWithin i s node k) (move : k < length node.moves.items) where
-  same_turn : turn_here i s.found.list node.at k ≡ node_turn s node k
-  same_turn = λ j. record { schedule = node_schedule s node; item = slice_index_or (sym w.is.moves j) k 0 }
+  abbrev u : List ℕ
+  u = schedule_at s at
 
-  is_move : k < length (moves (run (start i) (node_schedule s node)))
-  is_move = subst (λ (l : List ℕ). k < length l) w.is.moves move
+  same_turn : turn_here i s.found at k ≡ x
+  same_turn = λ j. record { schedule = u; item = slice_index_or (sym w.moves j) k 0 }
 
-  ahead : turns_from i s.found.list node.at k ≡ node_turn s node k ∷ turns_from i s.found.list node.at (k + 1)
-  ahead = turns_next i s.found.list node.at k is_move ∙ ap (λ (x : Extension). x ∷ turns_from i s.found.list node.at (k + 1)) same_turn
+  is_move : k < length (moves (run (start i) u))
+  is_move = subst (λ (l : List ℕ). k < length l) w.moves move
 
-  pub made : turns_before i s.found.list node.at (k + 1) ≡ turns_before i s.found.list node.at k ++ node_turn s node k ∷ []
-  made = turns_made i s.found.list node.at k is_move ∙ ap (λ (x : Extension). turns_before i s.found.list node.at k ++ x ∷ []) same_turn
+  ahead : turns_from i s.found at k ≡ x ∷ turns_from i s.found at (k + 1)
+  ahead = turns_next i s.found at k is_move ∙ ap (λ (y : Extension). y ∷ turns_from i s.found at (k + 1)) same_turn
 
-  pub move_inside : Contains (moves (run (start i) (node_schedule s node))) (slice_index_or node.moves.items k 0)
-  move_inside = subst (λ l. Contains l (slice_index_or node.moves.items k 0)) w.is.moves (k, move, at_any node.moves.items k 0 (slice_index_or node.moves.items k 0) move)
+  made : turns_before i s.found at (k + 1) ≡ turns_before i s.found at k ++ x ∷ []
+  made = turns_made i s.found at k is_move ∙ ap (λ (y : Extension). turns_before i s.found at k ++ y ∷ []) same_turn
 
-  module _ (mid : Search) (b : Bench) (f : Findings) (o : Origin) (child : Option ℕ) (all : Bool) (row : Vec ℕ Global) (from : o.from ≡ node.at) (item : o.item ≡ slice_index_or node.moves.items k 0)
-      (at : IsAtConfiguration i (extended (node_turn s node k)) b)
-      (noted : Noted i s.found.list (turns_before i s.found.list node.at k ++ node_turn s node k ∷ []) f)
-      (ended : Ended i s.found.list (take node.at s.found.list) f)
-      (met : Met (kept i (run (start i) (extended (node_turn s node k)))) o child (record s { bench = b; findings = f }) mid)
-      (is_all : all ≡ all_after s.all child) (is_row : row.items ≡ child_more s.children.items child) where
-    abbrev now : Search
-    now = record mid { all = all; children = row }
+  pub move_inside : Contains (moves (run (start i) u)) (slice_index_or s.moves.items k 0)
+  move_inside = subst (λ l. Contains l (slice_index_or s.moves.items k 0)) w.moves (k, move, at_any s.moves.items k 0 (slice_index_or s.moves.items k 0) move)
 
-    led : led_by s.found.list o ≡ extended (node_turn s node k)
-    led = ap (λ n. slice_index_or s.found.list n [] ++ o.item ∷ []) from ∙ ap (λ m. node_schedule s node ++ m ∷ []) item
+  -- what is left by a look-up of where the move leads
+  module _ (b : Configs) (f : Findings) (mid : Search) (child : Option ℕ)
+      (noted : Noted i s.found (turns_before i s.found at k ++ x ∷ []) f) (ended : Ended i s.found (take at s.found) f)
+      (met : Met i (record { from = at; item = slice_index_or s.moves.items k 0 }) child (record s { configs = b; findings = f }) mid) where
+    more : Grown s.found mid.found
+    more = grown i s.limit met.looked (record { from = at; item = slice_index_or s.moves.items k 0 }) s.found mid.found met.looks
 
-    more : Grown s.found now.found
-    more = grown met.looked (kept i (run (start i) (extended (node_turn s node k)))) o s.found now.found met.looks
+    same_schedule : schedule_at mid at ≡ u
+    same_schedule = ap (λ l. slice_index_or l at []) more.list ∙ same_here i s.found more.more at w.inside
 
-    inside : node.at < length s.found.list
-    inside = w.is.inside
+    same_turns : turns_before i mid.found at (k + 1) ≡ turns_before i s.found at k ++ x ∷ []
+    same_turns = ap (λ l. turns_before i l at (k + 1)) more.list ∙ before_more i s.found more.more at w.inside (k + 1) ∙ made
 
-    same_schedule : node_schedule now node ≡ node_schedule s node
-    same_schedule = ap (λ l. slice_index_or l node.at []) more.list ∙ same_here i s.found.list more.more node.at inside
+    same_past : take at mid.found ≡ take at s.found
+    same_past = ap (take at) more.list ∙ same_front i s.found more.more at w.inside
 
-    same_turns : turns_before i now.found.list node.at (k + 1) ≡ turns_before i s.found.list node.at k ++ node_turn s node k ∷ []
-    same_turns = ap (λ l. turns_before i l node.at (k + 1)) more.list ∙ before_more i s.found.list more.more node.at inside (k + 1) ∙ made
-
-    same_past : take node.at now.found.list ≡ take node.at s.found.list
-    same_past = ap (take node.at) more.list ∙ same_front i s.found.list more.more node.at inside
-
-    noted_now : Noted i now.found.list (turns_before i now.found.list node.at (k + 1)) now.findings
-    noted_now =
-        subst (Noted i now.found.list (turns_before i now.found.list node.at (k + 1))) (sym met.findings)
-        (subst (λ d. Noted i now.found.list d f) (sym same_turns)
-        (subst (λ l. Noted i l (turns_before i s.found.list node.at k ++ node_turn s node k ∷ []) f) (sym more.list)
-        (noted_more i s.found.list more.more (turns_before i s.found.list node.at k ++ node_turn s node k ∷ []) f noted)))
-
-    ended_now : Ended i now.found.list (take node.at now.found.list) now.findings
-    ended_now =
-        subst (Ended i now.found.list (take node.at now.found.list)) (sym met.findings)
-        (subst (λ p. Ended i now.found.list p f) (sym same_past)
-        (subst (λ l. Ended i l (take node.at s.found.list) f) (sym more.list)
-        (ended_more i s.found.list more.more (take node.at s.found.list) f ended)))
-
-    longer : node.at < length now.found.list
+    longer : at < length mid.found
     longer =
         let long = ap length more.list in
-        let both = length-append s.found.list more.more in
-        let low = inside in
+        let both = length-append s.found more.more in
+        let low = w.inside in
         omega (arith, long, both, low)
 
     was_all : (c : Option ℕ) → all_after s.all c ≡ true → s.all ≡ true
     was_all None e = cc
     was_all (Some c) e = e
 
-    graph_now : all ≡ true → IsGraph i now.found.list (take node.at now.found.list) now.graph
-    graph_now e =
-        subst (IsGraph i now.found.list (take node.at now.found.list)) (sym met.graph)
-        (subst (λ p. IsGraph i now.found.list p s.graph) (sym same_past)
-        (subst (λ l. IsGraph i l (take node.at s.found.list) s.graph) (sym more.list)
-        (graph_more i s.found.list more.more (take node.at s.found.list) s.graph (w.come.graph (was_all child (sym is_all ∙ e))))))
-
-    children_now : (c : Option ℕ) → c ≡ child → all_after s.all c ≡ true → AllZip (IsChild i now.found.list (node_schedule s node)) (take (k + 1) node.moves.items) (child_more s.children.items c)
+    children_now : (c : Option ℕ) → c ≡ child → all_after s.all c ≡ true → AllZip (IsChild i mid.found u) (take (k + 1) s.moves.items) (child_more s.children.items c)
     children_now None is e = cc
     children_now (Some c) is e =
-        let m = slice_index_or node.moves.items k 0 in
-        let t = node_schedule s node in
-        subst (λ l. AllZip (IsChild i now.found.list t) l (s.children.items ++ c ∷ [])) (sym (take_one node.moves.items k 0 move))
-        (zip_push (IsChild i now.found.list t) (take k node.moves.items) s.children.items m c
-        (subst (λ l. AllZip (IsChild i l t) (take k node.moves.items) s.children.items) (sym more.list) (children_more i s.found.list more.more t (take k node.moves.items) s.children.items (w.children e)))
-        (child_of i img met.looked c (extended (node_turn s node k)) t m o s.found mid.found refl led w.come.held met.looks (is ∙ met.child)))
+        let m = slice_index_or s.moves.items k 0 in
+        subst (λ l. AllZip (IsChild i mid.found u) l (s.children.items ++ c ∷ [])) (sym (take_one s.moves.items k 0 move))
+        (zip_push (IsChild i mid.found u) (take k s.moves.items) s.children.items m c
+        (subst (λ l. AllZip (IsChild i l u) (take k s.moves.items) s.children.items) (sym more.list) (children_more i s.found more.more u (take k s.moves.items) s.children.items (w.children e)))
+        (child_of i s.limit met.looked c u m (record { from = at; item = m }) s.found mid.found refl met.looks (is ∙ met.child)))
 
-    pub moved : Made i s now node k
-    moved = record {
+    -- a search that has only what the look-up left, and where the move leads
+    module _ (all : Bool) (row : Vec ℕ Global) (is_all : all ≡ all_after s.all child) (is_row : row.items ≡ child_more s.children.items child) where
+      abbrev there : Search
+      there = record s { configs = mid.configs; found = mid.found; findings = f; all = all; children = row }
+
+      within : IsWithin i there at (k + 1)
       within = record {
-        is = record {
-          inside = longer;
-          parts = subst (λ t. ArePartsAt i t node.parts) (sym same_schedule) w.is.parts;
-          moves = w.is.moves ∙ ap (λ t. moves (run (start i) t)) (sym same_schedule);
-        };
+        inside = longer;
+        moves = w.moves ∙ ap (λ t. moves (run (start i) t)) (sym same_schedule);
         come = record {
           image = w.come.image;
-          groups = ap (λ (g : Vec ℕ Global). g.items) met.groups ∙ w.come.groups;
-          bench = (extended (node_turn s node k), subst (IsAtConfiguration i (extended (node_turn s node k))) (sym met.bench) at);
-          held = held_more i met.looked (extended (node_turn s node k)) o s.found now.found led w.come.held met.looks;
-          room = subst (λ n. n < 2 ^ 32) (sym more.limit) w.come.room;
-          goes = subst (λ all. GoesOn all i now.found.limit now.found.list (turns_before i now.found.list node.at (k + 1)) (turns_from i now.found.list node.at (k + 1)))
+          groups = w.come.groups;
+          kept = met.kept;
+          room = w.come.room;
+          goes = subst (λ b. GoesOn b i s.limit mid.found (turns_before i mid.found at (k + 1)) (turns_from i mid.found at (k + 1)))
               (ap (all_after s.all) (sym met.child) ∙ sym is_all)
-              (comes_to i img s.found now.found w.come.held node.at k inside (node_turn s node k) o led ahead made met.looked s.all w.come.goes met.looks);
-          noted = noted_now;
-          ended = ended_now;
-          graph = graph_now;
+              (comes_to i w.come.image s.limit s.found mid.found at k w.inside x (record { from = at; item = slice_index_or s.moves.items k 0 }) refl ahead made met.looked s.all w.come.goes met.looks);
+          noted = subst (λ d. Noted i mid.found d f) (sym same_turns)
+              (subst (λ l. Noted i l (turns_before i s.found at k ++ x ∷ []) f) (sym more.list)
+              (noted_more i s.found more.more (turns_before i s.found at k ++ x ∷ []) f noted));
+          ended = subst (λ p. Ended i mid.found p f) (sym same_past)
+              (subst (λ l. Ended i l (take at s.found) f) (sym more.list) (ended_more i s.found more.more (take at s.found) f ended));
+          graph = λ e. subst (λ p. IsGraph i mid.found p s.graph) (sym same_past)
+              (subst (λ l. IsGraph i l (take at s.found) s.graph) (sym more.list)
+              (graph_more i s.found more.more (take at s.found) s.graph (w.come.graph (was_all child (sym is_all ∙ e)))));
         };
-        children = λ e.
-            subst (λ t. AllZip (IsChild i now.found.list t) (take (k + 1) node.moves.items) row.items) (sym same_schedule)
-            (subst (AllZip (IsChild i now.found.list (node_schedule s node)) (take (k + 1) node.moves.items)) (sym is_row) (children_now child refl (sym is_all ∙ e)));
-      };
-      schedule = same_schedule;
-      limit = more.limit;
-    }
+        children = λ e. subst (λ t. AllZip (IsChild i mid.found t) (take (k + 1) s.moves.items) row.items) (sym same_schedule)
+            (subst (AllZip (IsChild i mid.found u) (take (k + 1) s.moves.items)) (sym is_row) (children_now child refl (sym is_all ∙ e)));
+      }
 
-module _ (i : Image) (s : Search) (node : Node) (k : ℕ) (w : IsWithin i s node k) (move : k < length node.moves.items) (b : Bench) (m : ℕ) (is : m ≡ slice_index_or node.moves.items k 0)
-    (at : IsAtConfiguration i (node_schedule s node ++ m ∷ []) b) where
-  at_turn : IsAtConfiguration i (extended (node_turn s node k)) b
-  at_turn = subst (λ n. IsAtConfiguration i (node_schedule s node ++ n ∷ []) b) is at
+      pub makes : (stays : Bool) → stays ≡ leads_back at child → Makes i stays s there at k
+      makes stays e = record {
+        within = within;
+        schedule = same_schedule;
+        moves = refl;
+        limit = refl;
+        back = subst (λ c. StaysBy c i u (slice_index_or s.moves.items k 0)) (ap (leads_back at) (sym met.child) ∙ sym e)
+            (stays_so i s.limit s.found at w.inside (listed i s.all s.limit s.found (turns_before i s.found at k) (turns_from i s.found at k) w.come.goes) met.looked
+            (slice_index_or s.moves.items k 0) mid.found met.looks);
+      }
 
-  -- a look-up of where the move leads
-  abbrev pub MetBy : Findings → Option ℕ → Search → Type 0
-  MetBy f child mid = (u : List ℕ) → IsAtConfiguration i u b → Met (kept i (run (start i) u)) (record { from = node.at; item = m }) child (record s { bench = b; findings = f }) mid
+    -- if there was room for where it leads, and if there was none
+    pub makes_child : (c : ℕ) → child ≡ Some c → (row : Vec ℕ Global) → row.items ≡ mid.children.items ++ c ∷ [] → (stays : Bool) → stays ≡ (c == at) → Makes i stays s (record mid { children = row }) at k
+    makes_child c e row items stays is =
+        let rest = met.rest in
+        subst (λ (z : Search). Makes i stays s (record z { children = row }) at k) (sym rest)
+        (makes s.all row (ap (all_after s.all) (sym e))
+        (items ∙ ap (λ (z : Search). z.children.items ++ c ∷ []) rest ∙ ap (child_more s.children.items) (sym e)) stays (is ∙ ap (leads_back at) (sym e)))
 
-  pub moved_by : (mid : Search) (f : Findings) (child : Option ℕ) (all : Bool) (row : Vec ℕ Global)
-      → Noted i s.found.list (turns_before i s.found.list node.at k ++ (record { schedule = node_schedule s node; item = m }) ∷ []) f
-      → Ended i s.found.list (take node.at s.found.list) f
-      → MetBy f child mid → all ≡ all_after s.all child → row.items ≡ child_more s.children.items child → Made i s (record mid { all = all; children = row }) node k
-  moved_by mid f child all row noted ended met is_all is_row =
-      moved i w.come.image s node k w move mid b f (record { from = node.at; item = m }) child all row refl is at_turn
-      (subst (λ n. Noted i s.found.list (turns_before i s.found.list node.at k ++
-      (record { schedule = node_schedule s node; item = n }) ∷ []) f) is noted) ended
-      (met (extended (node_turn s node k)) at_turn) is_all is_row
-
-  -- the move leads back exactly if the configuration to which it leads is the node's
-  pub stays_by : (mid : Search) (f : Findings) (child : Option ℕ) → MetBy f child mid → (stays : Bool) → stays ≡ leads_back node.at child → StaysBy stays i (node_schedule s node) (slice_index_or node.moves.items k 0)
-  stays_by mid f child met stays e =
-      let h = met (extended (node_turn s node k)) at_turn in
-      subst (λ c. StaysBy c i (node_schedule s node) (slice_index_or node.moves.items k 0)) (ap (leads_back node.at) (sym h.child) ∙ sym e)
-      (stays_so i w.come.image s node.at w.is.inside w.come.held (listed i s.all s.found.limit s.found.list _ _ w.come.goes) h.looked (slice_index_or node.moves.items k 0) _ mid.found h.looks)
-
-  -- what the move leaves, if there was room for where it leads, and if there was none
-  module _ (mid : Search) (f : Findings) (child : Option ℕ)
-      (noted : Noted i s.found.list (turns_before i s.found.list node.at k ++ (record { schedule = node_schedule s node; item = m }) ∷ []) f)
-      (ended : Ended i s.found.list (take node.at s.found.list) f) (met : MetBy f child mid) where
-    looked_up : Met (kept i (run (start i) (extended (node_turn s node k)))) (record { from = node.at; item = m }) child (record s { bench = b; findings = f }) mid
-    looked_up = met (extended (node_turn s node k)) at_turn
-
-    pub made_child : (c : ℕ) → child ≡ Some c → (row : Vec ℕ Global) → row.items ≡ mid.children.items ++ c ∷ [] → Made i s (record mid { children = row }) node k
-    made_child c e row items =
-        moved_by mid f child mid.all row noted ended met (looked_up.all ∙ ap (all_after s.all) (sym e))
-        (items ∙ ap (λ (v : Vec ℕ Global). v.items ++ c ∷ []) looked_up.children ∙ ap (child_more s.children.items) (sym e))
-
-    pub made_none : child ≡ None → Made i s (record mid { all = false }) node k
-    made_none e =
-        moved_by mid f child false mid.children noted ended met (ap (all_after s.all) (sym e))
-        (ap (λ (v : Vec ℕ Global). v.items) looked_up.children ∙ ap (child_more s.children.items) (sym e))
+    pub makes_none : child ≡ None → Makes i false s (record mid { all = false }) at k
+    makes_none e =
+        let rest = met.rest in
+        subst (λ (z : Search). Makes i false s (record z { all = false }) at k) (sym rest)
+        (makes false s.children (ap (all_after s.all) (sym e)) (ap (child_more s.children.items) (sym e)) false (ap (leads_back at) (sym e)))
 
 -- the ends that were noted stay noted
 pub ended_as : (i : Image) (list past : List (List ℕ)) (f g : Findings) → ((ends : List End) → AreNoted i list ends f → AreNoted i list ends g) → Ended i list past f → Ended i list past g
@@ -592,10 +503,6 @@ ended_one i list past t o f g e final is noted = record {
 pub item_is : (xs : List ℕ) (k x : ℕ) → k < length xs → x ≡ slice_index_or xs k x → x ≡ slice_index_or xs k 0
 item_is xs k x lt e = e ∙ at_any xs k 0 x lt
 
-pub list_few : (i : Image) (all : Bool) (limit : ℕ) (list : List (List ℕ)) (done left : List Extension) → GoesOn all i limit list done left → length list ≤ limit
-list_few i true limit list done left o = o.few
-list_few i false limit list done left h = let full = h.full in omega (arith, full)
-
 pub if_more : {A E : Type 0} {P Q : A → Type 0} (r : Result A E) → ((x : A) → P x → Q x) → IfOk r P → IfOk r Q
 if_more (Ok x) f h = f x h
 if_more (Err e) f h = tt
@@ -611,101 +518,221 @@ stay_more i t ms m false stays move h k = h
 pub final_so : (i : Image) (t : List ℕ) (ms : List ℕ) → ms ≡ moves (run (start i) t) → AllStay true i t ms → IsFinal i t
 final_so i t ms e h m inside = all_at (λ n. leads_to i (t ++ n ∷ []) ≡ leads_to i t) ms m h (subst (λ l. Contains l m) (sym e) inside)
 
-module _ (i : Image) (s : Search) (node : Node) (w : IsWithin i s node (length node.moves.items)) where
+module _ (i : Image) (s : Search) (at : ℕ) (w : IsWithin i s at (length s.moves.items)) where
   abbrev own : List Extension
-  own = extensions i (node_schedule s node)
+  own = extensions i (schedule_at s at)
 
-  own_long : length own ≡ length node.moves.items
+  own_long : length own ≡ length s.moves.items
   own_long =
-      let m : ℕ → Extension = λ n. record { schedule = node_schedule s node; item = n } in
-      length-map (moves (run (start i) (node_schedule s node))) m ∙ ap length (sym w.is.moves)
+      let m : ℕ → Extension = λ n. record { schedule = schedule_at s at; item = n } in
+      length-map (moves (run (start i) (schedule_at s at))) m ∙ ap length (sym w.moves)
 
-  past_more : take node.at s.found.list ++ node_schedule s node ∷ [] ≡ take (node.at + 1) s.found.list
-  past_more = sym (take_one s.found.list node.at [] w.is.inside)
+  pub past_more : take at s.found ++ schedule_at s at ∷ [] ≡ take (at + 1) s.found
+  past_more = sym (take_one s.found at [] w.inside)
 
-  turns_all : turns_before i s.found.list node.at (length node.moves.items) ≡ flat_map (extensions i) (take (node.at + 1) s.found.list)
+  turns_all : turns_before i s.found at (length s.moves.items) ≡ flat_map (extensions i) (take (at + 1) s.found)
   turns_all =
-      ap (λ l. flat_map (extensions i) (take node.at s.found.list) ++ l) (take_whole own (length node.moves.items) own_long)
-      ∙ sym (flat_push (extensions i) (take node.at s.found.list) (node_schedule s node)) ∙ ap (flat_map (extensions i)) past_more
+      ap (λ l. flat_map (extensions i) (take at s.found) ++ l) (take_whole own (length s.moves.items) own_long)
+      ∙ sym (flat_push (extensions i) (take at s.found) (schedule_at s at)) ∙ ap (flat_map (extensions i)) past_more
 
-  none_left : turns_from i s.found.list node.at (length node.moves.items) ≡ flat_map (extensions i) (drop (node.at + 1) s.found.list)
-  none_left = ap (λ l. l ++ flat_map (extensions i) (drop (node.at + 1) s.found.list)) (drop_whole own (length node.moves.items) own_long)
+  none_left : turns_from i s.found at (length s.moves.items) ≡ flat_map (extensions i) (drop (at + 1) s.found)
+  none_left = ap (λ l. l ++ flat_map (extensions i) (drop (at + 1) s.found)) (drop_whole own (length s.moves.items) own_long)
 
-  -- the graph, with the children of the node
-  graph_made : s.all ≡ true → IsGraph i s.found.list (take node.at s.found.list ++ node_schedule s node ∷ []) (s.graph ++ s.children.items ∷ [])
+  -- the graph, with the children of the configuration
+  graph_made : s.all ≡ true → IsGraph i s.found (take at s.found ++ schedule_at s at ∷ []) (s.graph ++ s.children.items ∷ [])
   graph_made e =
-      zip_push (λ t row. AllZip (IsChild i s.found.list t) (moves (run (start i) t)) row) (take node.at s.found.list) s.graph (node_schedule s node) s.children.items (w.come.graph e)
-      (subst (λ ms. AllZip (IsChild i s.found.list (node_schedule s node)) ms s.children.items) (take_whole node.moves.items (length node.moves.items) refl ∙ w.is.moves) (w.children e))
+      zip_push (λ t row. AllZip (IsChild i s.found t) (moves (run (start i) t)) row) (take at s.found) s.graph (schedule_at s at) s.children.items (w.come.graph e)
+      (subst (λ ms. AllZip (IsChild i s.found (schedule_at s at)) ms s.children.items) (take_whole s.moves.items (length s.moves.items) refl ∙ w.moves) (w.children e))
 
   -- the next configuration
-  pub all_made : (f : Findings) (g : List (List ℕ)) → Noted i s.found.list (turns_before i s.found.list node.at (length node.moves.items)) f
-      → Ended i s.found.list (take node.at s.found.list ++ node_schedule s node ∷ []) f
-      → (s.all ≡ true → g ≡ s.graph ++ s.children.items ∷ []) → IsBefore i (record s { findings = f; graph = g }) (node.at + 1)
-  all_made f g noted ended is = record {
+  pub all_made : (now : Search) (g : List (List ℕ)) → IsNotedIfFinal i s now at → now ≡ record s { configs = now.configs; findings = now.findings }
+      → (now.all ≡ true → g ≡ now.graph ++ now.children.items ∷ []) → IsBefore i (record now { graph = g }) (at + 1)
+  all_made now g h rest is = subst (λ (z : Search). IsBefore i (record z { graph = g }) (at + 1)) (sym rest) (record {
     image = w.come.image;
     groups = w.come.groups;
-    bench = w.come.bench;
-    held = w.come.held;
+    kept = h.kept;
     room = w.come.room;
-    goes = subst (λ l. GoesOn s.all i s.found.limit s.found.list l (flat_map (extensions i) (drop (node.at + 1) s.found.list))) turns_all
-        (subst (GoesOn s.all i s.found.limit s.found.list (turns_before i s.found.list node.at (length node.moves.items))) none_left w.come.goes);
-    noted = subst (λ l. Noted i s.found.list l f) turns_all noted;
-    ended = subst (λ l. Ended i s.found.list l f) past_more ended;
-    graph = λ e. subst (λ l. IsGraph i s.found.list l g) past_more (subst (IsGraph i s.found.list (take node.at s.found.list ++ node_schedule s node ∷ [])) (sym (is e)) (graph_made e));
+    goes = subst (λ l. GoesOn s.all i s.limit s.found l (flat_map (extensions i) (drop (at + 1) s.found))) turns_all
+        (subst (GoesOn s.all i s.limit s.found (turns_before i s.found at (length s.moves.items))) none_left w.come.goes);
+    noted = subst (λ l. Noted i s.found l now.findings) turns_all h.noted;
+    ended = h.ended;
+    graph = λ e.
+        let same = is (ap (λ (z : Search). z.all) rest ∙ e) ∙ ap (λ (z : Search). z.graph ++ z.children.items ∷ []) rest in
+        subst (λ l. IsGraph i s.found l g) past_more (subst (IsGraph i s.found (take at s.found ++ schedule_at s at ∷ [])) (sym same) (graph_made e));
+  })
+
+  -- the configuration is noted as an end, or is none
+  pub noted_final : (now : Search) (o : Outcome) → HasKept i s.found now.configs → Noted i s.found (turns_before i s.found at (length s.moves.items)) now.findings
+      → IsFinal i (schedule_at s at) → IsOutcome i (schedule_at s at) o
+      → AreNoted i s.found (w.come.ended.ends ++ (record { schedule = schedule_at s at; outcome = o }) ∷ []) now.findings → IsNotedIfFinal i s now at
+  noted_final now o kept noted final is ends = record {
+    kept = kept;
+    noted = noted;
+    ended = subst (λ l. Ended i s.found l now.findings) past_more
+        (ended_one i s.found (take at s.found) (schedule_at s at) o s.findings now.findings w.come.ended final is ends);
   }
 
+  pub not_final : (IsFinal i (schedule_at s at) → ⊥) → IsNotedIfFinal i s s at
+  not_final none = record {
+    kept = w.come.kept;
+    noted = w.come.noted;
+    ended = subst (λ l. Ended i s.found l s.findings) past_more (ended_skip i s.found (take at s.found) (schedule_at s at) s.findings w.come.ended none);
+  }
+
+  -- there is room for one end more
+  pub ends_room : length w.come.ended.ends < 2 ^ 32
+  ends_room =
+      let few = ended_few i s.found (take at s.found) s.findings w.come.ended in
+      let past = take_few at s.found in
+      let all = list_few i s.all s.limit s.found (turns_before i s.found at (length s.moves.items)) (turns_from i s.found at (length s.moves.items)) w.come.goes in
+      let room = w.come.room in
+      omega (arith, few, past, all, room)
+
 -- 8. The start and the end.
+
+-- no move of a configuration is made yet
+pub none_made : (i : Image) (s now : Search) (at : ℕ) → IsBefore i s at → at < length s.found → HasKept i s.found now.configs
+    → now ≡ record s { configs = now.configs; moves = now.moves; children = now.children } → now.moves.items ≡ moves (run (start i) (schedule_at s at)) → now.children.items ≡ []
+    → IsWithin i now at 0
+none_made i s now at b inside kept rest is none = subst (λ (z : Search). IsWithin i z at 0) (sym rest) (record {
+  inside = inside;
+  moves = is;
+  come = record {
+    image = b.image;
+    groups = b.groups;
+    kept = kept;
+    room = b.room;
+    goes = subst (λ l. GoesOn s.all i s.limit s.found l (turns_from i s.found at 0)) (sym (append-nil (flat_map (extensions i) (take at s.found))))
+        (subst (GoesOn s.all i s.limit s.found (flat_map (extensions i) (take at s.found)))
+        (ap (flat_map (extensions i)) (drop_one s.found at [] inside)) b.goes);
+    noted = subst (λ l. Noted i s.found l s.findings) (sym (append-nil (flat_map (extensions i) (take at s.found)))) b.noted;
+    ended = b.ended;
+    graph = b.graph;
+  };
+  children = λ e. subst (AllZip (IsChild i s.found (schedule_at s at)) []) (sym none) tt;
+})
 
 -- no end was noted
 pub ended_begins : (i : Image) (list : List (List ℕ)) (f : Findings) → AreNoted i list [] f → Ended i list [] f
 ended_begins i list f h = record { finals = []; are = refl; ends = []; of = record { schedules = refl; outcomes = tt }; noted = h }
 
-pub begins : (i : Image) (img : IsImage i) (limit : ℕ) → 1 ≤ limit → limit ≤ state_limit → (numbers : List ℕ) → numbers ≡ kept i (run (start i) [])
-    → (s : Search) → s.found ≡ record { list = [] ∷ []; forms = numbers ∷ []; limit = limit } → s.all ≡ true
-    → s.groups.items ≡ groups_of (start i).core → IsAtConfiguration i [] s.bench → ((list : List (List ℕ)) → Noted i list [] s.findings)
+pub begins : (i : Image) (img : IsImage i) (limit : ℕ) → 1 ≤ limit → limit ≤ state_limit
+    → (s : Search) → s.found ≡ [] ∷ [] → s.limit ≡ limit → s.all ≡ true
+    → s.groups.items ≡ groups_of (start i).core → HasKept i ([] ∷ []) s.configs → ((list : List (List ℕ)) → Noted i list [] s.findings)
     → ((list : List (List ℕ)) → Ended i list [] s.findings) → s.graph ≡ [] → IsBefore i s 0
 unfolding explored_turns
-begins i img limit room few numbers is s found all groups at noted ended graph = record {
+begins i img limit room few s found is all groups kept noted ended graph = record {
   image = img;
   groups = groups;
-  bench = ([], at);
-  held = subst (Holds i) (sym found) (ap (λ n. n ∷ []) is);
-  room = let same = ap (λ (f : FoundList). f.limit) found in omega (arith, same, few);
-  goes = subst (λ (f : FoundList). GoesOn s.all i f.limit f.list (flat_map (extensions i) (take 0 f.list)) (flat_map (extensions i) (drop 0 f.list))) (sym found)
-      (subst (λ b. GoesOn b i limit ([] ∷ []) [] (explored_turns i ([] ∷ []))) (sym all) (search_begins i img limit room));
-  noted = noted s.found.list;
-  ended = ended s.found.list;
-  graph = λ e. subst (IsGraph i s.found.list []) (sym graph) tt;
+  kept = subst (λ l. HasKept i l s.configs) (sym found) kept;
+  room = omega (arith, is, few);
+  goes = subst (λ n. GoesOn s.all i n s.found (flat_map (extensions i) (take 0 s.found)) (flat_map (extensions i) (drop 0 s.found))) (sym is)
+      (subst (λ l. GoesOn s.all i limit l (flat_map (extensions i) (take 0 l)) (flat_map (extensions i) (drop 0 l))) (sym found)
+      (subst (λ b. GoesOn b i limit ([] ∷ []) [] (explored_turns i ([] ∷ []))) (sym all) (search_begins i img limit room)));
+  noted = noted s.found;
+  ended = ended s.found;
+  graph = λ e. subst (IsGraph i s.found []) (sym graph) tt;
 }
 
-module _ (i : Image) (img : IsImage i) (s : Search) (h : HasCome i s (explored_turns i s.found.list) [] s.found.list) where
-  ends : (all : Bool) → GoesOn all i s.found.limit s.found.list (explored_turns i s.found.list) []
-      → IsExplored i s.found.limit s.found.list × (all ≡ true → IsAll i s.found.list) × (all ≡ false → IsAll i s.found.list → ⊥)
-  ends true o = let k = search_ends i img s.found.limit s.found.list (explored_turns i s.found.list) o in (k.explored, λ e. k.answer, λ e. cc)
+module _ (i : Image) (img : IsImage i) (s : Search) (h : HasCome i s (explored_turns i s.found) [] s.found) where
+  ends : (all : Bool) → GoesOn all i s.limit s.found (explored_turns i s.found) []
+      → IsExplored i s.limit s.found × (all ≡ true → IsAll i s.found) × (all ≡ false → IsAll i s.found → ⊥)
+  ends true o = let k = search_ends i img s.limit s.found (explored_turns i s.found) o in (k.explored, λ e. k.answer, λ e. cc)
   ends false o = (o.searched.explored, λ e. cc, λ e. o.searched.answer)
 
-  pub searched : IsExplored i s.found.limit s.found.list × (s.all ≡ true → IsAll i s.found.list) × (s.all ≡ false → IsAll i s.found.list → ⊥)
+  pub searched : IsExplored i s.limit s.found × (s.all ≡ true → IsAll i s.found) × (s.all ≡ false → IsAll i s.found → ⊥)
   searched = ends s.all h.goes
 
--- 9. The parts and the moves of a node.
+-- 9. The machine with its configurations.
 
-module _ (i : Image) (img : IsImage i) where
-  pub parts_so : (f : FoundList) → Holds i f → (at : ℕ) → at < length f.list → (numbers : List ℕ) → slice_get f.forms at ≡ Some numbers
-      → (p : code.Parts) → parts_held i p ≡ parts_from i numbers → ArePartsAt i (slice_index_or f.list at []) p
-  parts_so f held at inside numbers e p is =
-      let s = run (start i) (slice_index_or f.list at []) in
-      is ∙ ap (parts_from i) (numbers_at i f held at inside numbers e) ∙ parts_again i s img (runs_state_of i (slice_index_or f.list at []) img)
+module _ (i : Image) (list : List (List ℕ)) where
+  -- an index of the list is that of a configuration
+  pub can_put : (c : Configs) → HasKept i list c → (at : ℕ) → at < length list → (j : Image) × (v : ConfigsValue) × Stands j v c × (at < length v.kept)
+  can_put c h at inside = let long = length-map list (leads_to i) in (i, with_configs i list h.machine, h.stands, omega (arith, long, inside))
 
-  slots_so : (t : List ℕ) (p : code.Parts) → ArePartsAt i t p → p.slots.items ≡ map uncounted_slot (slots_of (run (start i) t).core)
-  unfolding parts_of
-  slots_so t p e = ap (λ (q : Parts). q.slots) e
+  pub is_put : (c : Configs) (at : ℕ) → at < length list → (s : State) × (slice_get (map (leads_to i) list) at ≡ Some s) × Stands i (with_configs i list s) c → IsAt i list (slice_index_or list at []) c
+  is_put c at inside h =
+      let long = length-map list (leads_to i) in
+      let t = slice_index_or list at [] in
+      let two : Some h.0 ≡ Some (leads_to i t) =
+      sym h.1 ∙ get_inside (map (leads_to i) list) at (leads_to i t) (omega (arith, long, inside)) ∙ ap (λ (x : State). Some x) (map_at (leads_to i) list at [] (leads_to i t) inside) in
+      let one : h.0 ≡ leads_to i t = cc in
+      subst (λ s. Stands i (with_configs i list s) c) one h.2
 
-  pub small_so : (t : List ℕ) (p : code.Parts) → ArePartsAt i t p → AllByRecursion (λ (x : Slot). x.number < 64) p.slots.items
-  small_so t p e = small_numbers i (run (start i) t) p.slots.items (runs_state_of i t img) (slots_so t p e)
+  -- two indices are
+  pub can_differ : (c : Configs) → HasKept i list c → (a b : ℕ) → a < length list → b < length list
+      → (j : Image) × (v : ConfigsValue) × Stands j v c × (a < length v.kept) × (b < length v.kept)
+  can_differ c h a b low inside = let long = length-map list (leads_to i) in (i, with_configs i list h.machine, h.stands, omega (arith, long, low), omega (arith, long, inside))
 
-  pub moves_so : (t : List ℕ) (p : code.Parts) → ArePartsAt i t p → (split : Bool) → split ≡ i.split → (items : List ℕ) → items ≡ moves_in split p.slots.items → items ≡ moves (run (start i) t)
-  moves_so t p e split same items is =
-      is ∙ moves_are (run (start i) t) split p.slots.items (same ∙ sym (runs_state_of i t img).fits.split) (slots_so t p e)
+  -- where the slots of two configurations differ
+  pub are_apart : IsImage i → (a b : ℕ) → a < length list → b < length list → (machine : State) (mask : ℕ)
+      → AreApart (flags (length i.slots) mask) (slots_of (slice_index_or (map (leads_to i) list) a machine).core) (slots_of (slice_index_or (map (leads_to i) list) b machine).core)
+      → let t = slice_index_or list a [] in AreApart (flags (length (slots_at i t)) mask) (slots_at i t) (slots_at i (slice_index_or list b []))
+  are_apart img a b low inside machine mask h =
+      let t = slice_index_or list a [] in
+      let u = slice_index_or list b [] in
+      subst (λ n. AreApart (flags n mask) (slots_at i t) (slots_at i u)) (sym (slots_count i img t))
+      (subst (λ (x : State). AreApart (flags (length i.slots) mask) (slots_of x.core) (slots_at i u)) (map_at (leads_to i) list a [] machine low)
+      (subst (λ (x : State). AreApart (flags (length i.slots) mask) (slots_of (slice_index_or (map (leads_to i) list) a machine).core) (slots_of x.core)) (map_at (leads_to i) list b [] machine inside) h))
+
+  pub is_kept : (t : List ℕ) (c : Configs) → IsAt i list t c → HasKept i list c
+  is_kept t c h = record { machine = leads_to i t; stands = h }
+
+-- a turn from a configuration is that after its schedule
+configuration_again : (s : State) → configuration (configuration s) ≡ configuration s
+unfolding configuration
+configuration_again s = ap (λ (core : Core). let u : State = record { core = core; memory = s.memory; cycles = 0 } in u) (uncounted_again s.core)
+
+module _ (i : Image) (t : List ℕ) (item : ℕ) where
+  alike : GoesOnAlike (leads_to i t) (run (start i) t) item
+  alike = (configurations_go_on (leads_to i t) (run (start i) t) (configuration_again (run (start i) t))).each item
+
+  pub turn_leads : (c : Configs) (list : List (List ℕ)) → Stands i (with_configs i list (configuration (after (leads_to i t) item))) c → IsAt i list (t ++ item ∷ []) c
+  turn_leads c list h = subst (λ s. Stands i (with_configs i list s) c) (alike.leads ∙ sym (leads_more i t item)) h
+
+  pub turn_made : (m : Made) → m.step ≡ (turn_of (leads_to i t) item).step → m.group ≡ group_of (slot_at (configuration (after (leads_to i t) item)).core m.step.slot) → IsMade i t item m
+  unfolding configuration after
+  turn_made m step group = record {
+    step = step ∙ alike.step;
+    group = group ∙ ap (λ (n : ℕ). group_of (slot_at (uncounted (turn_of (leads_to i t) item).core) n)) (ap (λ (x : Step). x.slot) step) ∙ group_bare (turn_of (leads_to i t) item) ∙ alike.group;
+  }
+
+-- what keeping leaves of a search
+module _ (i : Image) (s : Search) (o : Origin) (at : IsAt i s.found (led_by s.found o) s.configs) where
+  abbrev was : ConfigsValue
+  was = with_configs i s.found (leads_to i (led_by s.found o))
+
+  pub met_known : (c : Configs) (k : ℕ) (now : ConfigsValue) → Stands i now c → Keeps s.limit (Known k) was now → Met i o (Some k) s (record s { configs = c })
+  met_known c k now stands h = record {
+    looked = Known k;
+    looks = (h.0, refl);
+    kept = record { machine = leads_to i (led_by s.found o); stands = subst (λ v. Stands i v c) h.1 stands };
+    child = refl;
+    rest = refl;
+  }
+
+  pub met_full : (c : Configs) (now : ConfigsValue) → Stands i now c → Keeps s.limit Full was now → Met i o None s (record s { configs = c })
+  met_full c now stands h = record {
+    looked = Full;
+    looks = let long = length-map s.found (leads_to i) in let few = h.1 in (h.0, omega (arith, long, few), refl);
+    kept = record { machine = leads_to i (led_by s.found o); stands = subst (λ v. Stands i v c) h.2 stands };
+    child = refl;
+    rest = refl;
+  }
+
+  pub met_new : (c : Configs) (now : ConfigsValue) (found : List (List ℕ)) (k : ℕ) → Stands i now c → Keeps s.limit New was now → found ≡ s.found ++ led_by s.found o ∷ [] → k ≡ length s.found
+      → Met i o (Some k) s (record s { configs = c; found = found })
+  met_new c now found k stands h is at_end = record {
+    looked = New;
+    looks = let long = length-map s.found (leads_to i) in let few = h.1 in (h.0, omega (arith, long, few), is);
+    kept = record {
+      machine = leads_to i (led_by s.found o);
+      stands = subst (λ v. Stands i v c)
+          (h.2 ∙ ap (λ l. let v : ConfigsValue = record { kept = l; machine = leads_to i (led_by s.found o) } in v) (sym (map_push (leads_to i) s.found (led_by s.found o)) ∙ ap (map (leads_to i)) (sym is))) stands;
+    };
+    child = ap (λ (n : ℕ). Some n) at_end;
+    rest = refl;
+  }
 
 -- 10. What calls answer.
 

@@ -9,13 +9,12 @@ use Rattle.std.specs.List.{AllByRecursion, AllZip, list_any, count_by, sum_by, f
 use Rattle.std.specs.Map.{lookup, keys_of}
 use Rattle.indexmap.specs.IndexMap.{insert_entry}
 use lib.Pointwise.{pointwise, pointwise_decides}
-use Rattle.mm_model.specs.Image.{Image}
+use Rattle.mm_model.specs.{Image.{Image, start}, Report.groups_of}
 use Rattle.mm_explore.specs.declared.{explored.{Standing.Standing}, ends.Tally.Tally}
 use Rattle.mm_explore.specs.Outcomes.{Outcome, End, ending_number, standing_number, same_outcome, firsts_after, firsts}
-use Rattle.mm_explore.specs.{Benches.ArePartsAt, Noting.{bytes_form, outcome_form, outcome_held, IsKeptEnd, tally_after}}
+use Rattle.mm_explore.specs.{Explored.leads_to, Noting.{bytes_form, outcome_form, outcome_held, IsKeptEnd, tally_after}}
 use Rattle.mm_explore.proofs.Finals.{outcomes_decide, numbers_decide, endings_tell, standing_at, standing_back}
 use Rattle.mm_explore.specs.declared.ends.End as code_end
-use Rattle.mm_explore.specs.declared.parts.Parts as code_parts
 
 -- 1. Outcomes are told apart by their numbers.
 
@@ -164,7 +163,7 @@ module _ {K : Type 0} (of : K → List ℕ) (i : Image) (list : List (List ℕ))
   Counts ends u entry = IsKeptEnd i list ends u (of entry.0) entry.1
 
   module _ (ends : List End) (t : End) (at : code_end.End) (first : slice_get list at.at ≡ Some t.schedule) (k : K) (form : of k ≡ outcome_form t.outcome)
-      (held : (p : code_parts.Parts) → ArePartsAt i t.schedule p → outcome_held at p ≡ t.outcome) where
+      (held : outcome_held at (leads_to i t.schedule).core (groups_of (start i).core) ≡ t.outcome) where
     abbrev with_t : List End
     with_t = ends ++ t ∷ []
 
@@ -240,7 +239,7 @@ module _ {K : Type 0} (of : K → List ℕ) (i : Image) (list : List (List ℕ))
             (counts_other u e h.0 is, rest (λ absent. none (ap (λ b. b || list_any (same t) us) differ ∙ absent)))
 
   pub ends_more : (ends : List End) (t : End) (at : code_end.End) (k : K) (es : List (K × Tally)) → slice_get list at.at ≡ Some t.schedule → of k ≡ outcome_form t.outcome
-      → ((p : code_parts.Parts) → ArePartsAt i t.schedule p → outcome_held at p ≡ t.outcome)
+      → outcome_held at (leads_to i t.schedule).core (groups_of (start i).core) ≡ t.outcome
       → IsDistinct same_key (keys_of es) → AllZip (Counts ends) (firsts ends) es
       → AllZip (Counts (ends ++ t ∷ [])) (firsts (ends ++ t ∷ [])) (insert_entry same_key es k (tally_after at (lookup (same_key k) es)))
   unfolding firsts

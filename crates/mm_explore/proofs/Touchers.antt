@@ -17,7 +17,7 @@ use Rattle.mm_model.proofs.{CoreRows.{slot_at-number, stays_by}, SlotSteps.deliv
 use Rattle.mm_model.proofs.{TurnKeeps.turn_keeps, TurnShapes.{fetch_use, started_one}}
 use Rattle.mm_span.proofs.Members.{none_in, in_first, in_rest, in_cases, all_at, in_map, map_in, in_filter}
 use Rattle.mm_explore.specs.Findings.{has_fault, fails_by}
-use Rattle.mm_explore.proofs.KeptRuns.{runs_state_of}
+use Rattle.mm_config.proofs.States.{runs_state_of}
 
 -- 1. The slot that a turn is about.
 

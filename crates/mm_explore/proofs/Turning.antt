@@ -8,7 +8,9 @@ use lib.Pointwise.{pointwise, pointwise_decides}
 use Rattle.mm_endless.{specs.Graphs.{children, AreNodes, IsWalk, Leads, IsRecurrent}, proofs.Descending.walks_end}
 use Rattle.mm_model.specs.{Image.{Image, start}, Run.run}
 use Rattle.mm_span.proofs.Members.{none_in, in_cases, all_at, map_in, in_map}
-use Rattle.mm_explore.specs.{Closed.{LeadsOn, IsAtEnd}, Configurations.moves, Explored.{leads_to, IsLeast, IsAll}}
+use Rattle.mm_explore.specs.Closed.{LeadsOn, IsAtEnd}
+use Rattle.mm_explore.specs.Moves.{moves}
+use Rattle.mm_explore.specs.Explored.{leads_to, IsLeast, IsAll}
 use Rattle.mm_explore.specs.{Findings.IsFinal, Laws.{EndsOrTurns, RunsEndOrTurn}}
 use Rattle.mm_explore.proofs.{Movings.{moves_or_idles, idle_leads}, Coverings.{leads_more}, Orders.{before_cases, more}}
 use Rattle.mm_explore.proofs.ClosedSets.{all_alike, on_same, on_trans, recurrent_ends, end_alike}

@@ -31,7 +31,7 @@ use Rattle.mm_model.specs.Turn.{state_after, slot_after, with_issue, with_other,
 use Rattle.mm_model.specs.Turn.{memory_after, stood, is_sync, event_of, core_faulted, faulted, touch_of, asked_use}
 use Rattle.mm_model.specs.Turn.{blocked, ended, executed, started, idle, arrives, port_of, turn}
 use Rattle.mm_model.proofs.TurnShapes.{fetch_uses, fetch_use, started_by, turn_both}
-use Rattle.mm_explore.specs.Configurations.{uncounted_slot, uncounted_row, uncounted}
+use Rattle.mm_config.specs.Configurations.{uncounted_slot, uncounted_row, uncounted}
 use Rattle.mm_word.specs.declared.cause.Cause.TheVariants as cause
 
 -- 1. Cores without counts of turns.

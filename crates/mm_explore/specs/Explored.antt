@@ -1,7 +1,8 @@
 -- Least schedules, and the list of the first of them.
 use Rattle.std.specs.{Prelude.{◌≡◌, ◌≢◌, ◌⊎◌, ℕ, ◌≤◌, List, length, Contains}, List.AllByRecursion}
 use Rattle.mm_model.specs.{State.State, Image.{Image, start}, Run.run}
-use Rattle.mm_explore.specs.{Configurations.configuration, Schedules.{Before, InOrder}}
+use Rattle.mm_config.specs.Configurations.{configuration}
+use Rattle.mm_explore.specs.Schedules.{Before, InOrder}
 
 -- the configuration to which a schedule leads from an image's start
 abbrev pub leads_to : Image → List ℕ → State

@@ -7,7 +7,7 @@ use Rattle.mm_model.specs.{declared.step.{Step.Step, Tick.{Tick, TheVariants.Fau
 use Rattle.mm_model.specs.{Image.{Image, start}, Turn.Turned, Run.{turn_of, run}, Trace.{touches, group_in}}
 use Rattle.mm_model.specs.{Counted.writes}
 use Rattle.mm_span.specs.Spans.{Span, AreSpans}
-use Rattle.mm_explore.specs.Configurations.{moves}
+use Rattle.mm_explore.specs.Moves.{moves}
 use Rattle.mm_explore.specs.Explored.{leads_to}
 
 -- 1. The turns explored.

@@ -1,17 +1,11 @@
--- The configurations that were found, each with its schedule and the numbers by which it is kept.
-use Rattle.std.specs.Prelude.{◌≡◌, ℕ, ◌+◌, ◌<◌, List, [], ◌∷◌, ◌++◌, map, length, Contains, Option, Some, None}
+-- The schedules of the configurations that were found, and the machine with these.
+use Rattle.std.specs.Prelude.{◌≡◌, ℕ, ◌+◌, ◌<◌, ◌≤◌, List, [], ◌∷◌, ◌++◌, map, length, Contains, Option, Some, None}
 use Rattle.std.specs.Prelude.{slice_get, slice_index_or}
-use Rattle.mm_model.specs.{Image.{Image, start}, Run.run}
-use Rattle.mm_explore.specs.declared.found.{Origin.Origin, Looked.{Looked, TheVariants.{Known, New, Full}}}
-use Rattle.mm_explore.specs.{Findings.Extension, Kept.kept}
-
-pub record FoundList : Type 0 where
-  -- the schedules, in the order in which they were found
-  pub list : List (List ℕ)
-  -- the numbers of each configuration
-  pub forms : List (List ℕ)
-  -- the most configurations that there is room for
-  pub limit : ℕ
+use Rattle.mm_model.specs.{Image.Image, State.State}
+use Rattle.mm_config.specs.{Keeping.Stands, Machines.Configs}
+use Rattle.mm_config.specs.declared.configs.Looked.{Looked, TheVariants.{Known, New, Full}}
+use Rattle.mm_config.specs.declared.configs.Configs as code
+use Rattle.mm_explore.specs.{declared.found.Origin.Origin, Explored.leads_to, Findings.Extension}
 
 -- the schedule at an index, with an item at its end if one is given
 abbrev pub schedule_with : List (List ℕ) → ℕ → Option ℕ → List ℕ
@@ -37,14 +31,24 @@ pub record IsOrigin (list : List (List ℕ)) (o : Origin) (x : Extension) : Type
   pub schedule : slice_get list o.from ≡ Some x.schedule
   pub item : o.item ≡ x.item
 
--- each configuration is kept by the numbers of the state to which its schedule leads
-abbrev pub Holds : Image → FoundList → Type 0
-Holds i f = f.forms ≡ map (λ t. kept i (run (start i) t)) f.list
+-- a machine at a configuration, with those to which the schedules of a list lead
+abbrev pub with_configs : Image → List (List ℕ) → State → Configs
+with_configs i list machine = record { kept = map (leads_to i) list; machine = machine }
 
--- what looking numbers up answers, and what it adds
-abbrev pub Looks : Looked → List ℕ → Origin → FoundList → FoundList → Type 0
-Looks (Known at) numbers o old new = (slice_get old.forms at ≡ Some numbers) × (new ≡ old)
-Looks New numbers o old new =
-    (Contains old.forms numbers → ⊥) × (length old.list < old.limit)
-    × (new ≡ record old { list = old.list ++ led_by old.list o ∷ []; forms = old.forms ++ numbers ∷ [] })
-Looks Full numbers o old new = (Contains old.forms numbers → ⊥) × (length old.list ≡ old.limit) × (new ≡ old)
+-- the machine is at the configuration to which a schedule leads
+abbrev pub IsAt : Image → List (List ℕ) → List ℕ → code.Configs → Type 0
+IsAt i list t configs = Stands i (with_configs i list (leads_to i t)) configs
+
+-- it is at some configuration
+pub record HasKept (i : Image) (list : List (List ℕ)) (configs : code.Configs) : Type 0 where
+  pub machine : State
+  pub stands : Stands i (with_configs i list machine) configs
+
+-- what looking up the configuration of an origin's schedule answers, and what it adds
+abbrev pub Looks : Image → ℕ → Looked → Origin → List (List ℕ) → List (List ℕ) → Type 0
+Looks i limit (Known at) o old new = (slice_get (map (leads_to i) old) at ≡ Some (leads_to i (led_by old o))) × (new ≡ old)
+Looks i limit New o old new =
+    (Contains (map (leads_to i) old) (leads_to i (led_by old o)) → ⊥) × (length old < limit)
+    × (new ≡ old ++ led_by old o ∷ [])
+Looks i limit Full o old new =
+    (Contains (map (leads_to i) old) (leads_to i (led_by old o)) → ⊥) × (limit ≤ length old) × (new ≡ old)

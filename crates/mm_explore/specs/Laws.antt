@@ -4,8 +4,10 @@ use Rattle.mm_word.specs.Access.{AccessValue}
 use Rattle.mm_model.specs.{State.State, Image.{Image, start}, Spelling.IsImage, Run.{turn_of, after, run}}
 use Rattle.mm_model.specs.{Trace.{touches, group_in}, Counted.writes}
 use Rattle.mm_span.specs.Spans.{Span, InSpan}
-use Rattle.mm_explore.specs.{Closed.{LeadsOn, IsClosed, IsAtEnd, IsEndless}, Configurations.{configuration, moves}}
-use Rattle.mm_explore.specs.{Explored.{leads_to, IsLeast, IsExplored, IsAll}, Finds.{Finds, outcome_found}, Kept.kept}
+use Rattle.mm_explore.specs.Closed.{LeadsOn, IsClosed, IsAtEnd, IsEndless}
+use Rattle.mm_config.specs.Configurations.{configuration}
+use Rattle.mm_explore.specs.Moves.{moves}
+use Rattle.mm_explore.specs.{Explored.{leads_to, IsLeast, IsExplored, IsAll}, Finds.{Finds, outcome_found}}
 use Rattle.mm_explore.specs.Findings.{Extension, extended, turn_at, has_fault, Reached, IsFinal}
 use Rattle.mm_explore.specs.{Outcomes.{Outcome, IsOutcome}, Results.{Results, GroupFound, FaultFound, OutcomeFound}}
 use Rattle.mm_explore.specs.Schedules.{Before}
@@ -137,13 +139,7 @@ FindingsAreMet = (i : Image) (limit : ℕ) (e : Results) → IsImage i → Finds
 abbrev pub ExplorationsAreOne : Type 0
 ExplorationsAreOne = (i : Image) (limit : ℕ) (e other : Results) → Finds i limit e → Finds i limit other → e ≡ other
 
--- 5. What is kept of the states of two runs is the same exactly if they are of one configuration.
-
-abbrev pub KeptFormsAreConfigurations : Type 0
-KeptFormsAreConfigurations = (i : Image) (a b : List ℕ) → IsImage i
-    → (kept i (run (start i) a) ≡ kept i (run (start i) b)) ↔ (leads_to i a ≡ leads_to i b)
-
--- 6. A least schedule is a least schedule and, after it, a move of the state to which that leads.
+-- 5. A least schedule is a least schedule and, after it, a move of the state to which that leads.
 
 abbrev pub LeastSchedulesAreMoves : Type 0
 LeastSchedulesAreMoves = (i : Image) (t : List ℕ) (item : ℕ) → IsLeast i (t ++ item ∷ [])

@@ -1,16 +1,11 @@
-pub mod Configurations
+pub mod Moves
 pub mod Schedules
 pub mod Explored
 pub mod Findings
 pub mod Closed
 pub mod Outcomes
 pub mod Texts
-pub mod Kept
-pub mod Assembled
 pub mod Laws
-pub mod Benches
-pub mod Edits
-pub mod Holds
 pub mod FoundLists
 pub mod Repeats
 pub mod Results

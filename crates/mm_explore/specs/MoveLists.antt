@@ -1,7 +1,7 @@
 -- The moves of a configuration, read of its slots.
 use Rattle.std.specs.{Prelude.{ℕ, ◌+◌, Bool, if◌then◌else◌, List, [], ◌∷◌, ◌++◌}, List.flat_map}
 use Rattle.mm_model.specs.{Slot.Slot, Turn.is_running}
-use Rattle.mm_explore.specs.Configurations.{are_some}
+use Rattle.mm_explore.specs.Moves.{are_some}
 
 -- the number of a slot, if it runs
 abbrev pub running_item : Slot → List ℕ

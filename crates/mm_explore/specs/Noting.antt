@@ -3,12 +3,12 @@ use Rattle.std.specs.Prelude.{◌≡◌, ℕ, ◌+◌, nat_eq, Bool, true, false
 use Rattle.std.specs.{Prelude.{Option, Some, None, slice_get}, List.{AllZip, find, flat_map}, BTreeMap.get}
 use Rattle.indexmap.specs.IndexMap.{IsUnique}
 use lib.Pointwise.{pointwise}
-use Rattle.mm_model.specs.{Flags.flags, Image.Image, Counted.writes, Slot.Slot}
+use Rattle.mm_model.specs.{Counted.writes, Fits.slots_of, Flags.flags, Image.{Image, start}, Report.groups_of, Slot.Slot}
+use Rattle.mm_model.specs.State.{Core, output_of}
 use Rattle.mm_explore.specs.declared.explored.Standing.{Standing, TheVariants.{Busy, In}}
 use Rattle.mm_explore.specs.declared.{findings.Findings.Findings, ends.{Tally.Tally}, found.Origin.Origin}
 use Rattle.mm_explore.specs.declared.ends.End as code_end
-use Rattle.mm_explore.specs.declared.parts.Parts as code_parts
-use Rattle.mm_explore.specs.{Benches.ArePartsAt, Findings.{Extension, turn_at, any_kind, has_fault}}
+use Rattle.mm_explore.specs.{Explored.leads_to, Findings.{Extension, turn_at, any_kind, has_fault}}
 use Rattle.mm_explore.specs.{FoundLists.{IsOrigin, led_by}, Results.FaultFound, Words.{order, AreKept, turn_words}}
 use Rattle.mm_explore.specs.Outcomes.{Outcome, End, ending_number, standing_number, firsts, count_of}
 
@@ -50,12 +50,12 @@ abbrev pub standings_of : List Bool → List Slot → List Standing
 standings_of (b ∷ busy) (s ∷ slots) = (if b then Busy else In s.state) ∷ standings_of busy slots
 standings_of _ _ = []
 
--- the outcome of an end that is kept, given the parts of its configuration
-abbrev pub outcome_held : code_end.End → code_parts.Parts → Outcome
-outcome_held e p = record {
+-- the outcome of an end that is kept, given the machine at it and the groups
+abbrev pub outcome_held : code_end.End → Core → List ℕ → Outcome
+outcome_held e core groups = record {
   ending = e.ending;
-  slots = standings_of (flags (length p.slots.items) e.busy) p.slots.items;
-  outputs = map (λ o. o.bytes) p.outputs.items;
+  slots = standings_of (flags (length (slots_of core)) e.busy) (slots_of core);
+  outputs = map (output_of core) groups;
 }
 
 -- what is kept of an end: the numbers of its outcome, how many of these ends have it, and the end itself
@@ -63,7 +63,7 @@ pub record IsKeptEnd (i : Image) (list : List (List ℕ)) (ends : List End) (e :
   pub form : key ≡ outcome_form e.outcome
   pub count : tally.count ≡ count_of ends e.outcome
   pub first : slice_get list tally.first.at ≡ Some e.schedule
-  pub held : (p : code_parts.Parts) → ArePartsAt i e.schedule p → outcome_held tally.first p ≡ e.outcome
+  pub held : outcome_held tally.first (leads_to i e.schedule).core (groups_of (start i).core) ≡ e.outcome
 
 -- one end more
 abbrev pub tally_after : code_end.End → Option Tally → Tally

@@ -2,13 +2,15 @@
 use Rattle.std.specs.Prelude.{◌≡◌, ◌⊎◌, ℕ, ◌+◌, Bool, true, false, ◌&&◌, ◌==◌, nat_eq, if◌then◌else◌, List, [], ◌∷◌, ◌++◌}
 use Rattle.std.specs.{Prelude.{map, slice_get, Some, None}, List.{AllByRecursion, count_by, list_any}}
 use lib.Pointwise.{pointwise}
-use Rattle.mm_word.specs.Cause.{number_of}
+use Rattle.mm_config.specs.StateNumbers.{state_number}
 use Rattle.mm_model.specs.declared.slot.SlotState.{SlotState, TheVariants.{Running, Waiting, Taken, Halted}}
 use Rattle.mm_model.specs.{Fits.slots_of, Image.{Image, start}, Report.groups_of, Run.run, Slot.Slot}
 use Rattle.mm_model.specs.State.{output_of}
 use Rattle.mm_explore.specs.declared.explored.Ending.{Ending, TheVariants.{Ended, Stuck, Endless}}
 use Rattle.mm_explore.specs.declared.explored.Standing.{Standing, TheVariants.{Busy, In}}
-use Rattle.mm_explore.specs.{Closed.{IsEndless, IsFirstEndless}, Configurations.moves, Explored.leads_to}
+use Rattle.mm_explore.specs.Closed.{IsEndless, IsFirstEndless}
+use Rattle.mm_explore.specs.Moves.{moves}
+use Rattle.mm_explore.specs.Explored.{leads_to}
 use Rattle.mm_explore.specs.{Findings.IsFinal}
 
 -- 1. The outcome of a set.
@@ -59,14 +61,6 @@ abbrev pub ending_number : Ending → ℕ
 ending_number Ended = 0
 ending_number Stuck = 1
 ending_number Endless = 2
-
--- a number for each state of a slot
-abbrev pub state_number : SlotState → ℕ
-state_number Running = 0
-state_number Waiting = 1
-state_number Taken = 2
-state_number (Halted None) = 3
-state_number (Halted (Some c)) = 3 + number_of c
 
 abbrev pub standing_number : Standing → ℕ
 standing_number Busy = 0

@@ -1,20 +1,15 @@
 -- How far a search has come.
 use Rattle.std.specs.Prelude.{◌≡◌, ◌⊎◌, ℕ, ◌+◌, ◌^◌, ◌<◌, ◌≤◌, Bool, true, false, List, [], ◌∷◌, ◌++◌, length, take}
-use Rattle.std.specs.Prelude.{drop, not, nat_eq, Contains, Option, Some, None, slice_get, slice_index_or}
+use Rattle.std.specs.Prelude.{drop, Contains, Option, Some, None, slice_get, slice_index_or}
 use Rattle.std.specs.List.{AllByRecursion, AllZip, flat_map}
-use lib.Pointwise.{pointwise}
-use Rattle.mm_model.specs.{Image.{Image, start}, Report.groups_of, Run.run, Spelling.IsImage}
-use Rattle.mm_explore.specs.declared.found.{Looked.{Looked, TheVariants.{Known, New, Full}}, Origin.Origin}
-use Rattle.mm_explore.specs.declared.{findings.Findings.Findings, search.{Node.Node, Search.Search}}
-use Rattle.mm_explore.specs.Benches.{IsAtSomeConfiguration, ArePartsAt}
-use Rattle.mm_explore.specs.{Configurations.moves, Explored.{leads_to, IsLeast, IsExplored, IsAll}}
-use Rattle.mm_explore.specs.Findings.{Extension, extended, extensions, explored_turns, IsFinal}
-use Rattle.mm_explore.specs.{FoundLists.{FoundList, Holds, Looks}, Kept.slot_form, Outcomes.{End, Selects, AreEndsOf, AreEnds, IsSteady, slots_at}}
-use Rattle.mm_explore.specs.Closed.{LeadsOn, IsFirstEndless}
-use Rattle.mm_model.specs.{Flags.flags, Slot.Slot}
-use Rattle.mm_explore.specs.Noting.{Noted, AreNoted}
+use Rattle.mm_config.specs.declared.configs.Looked.{Looked, TheVariants.{Known, New, Full}}
+use Rattle.mm_model.specs.{Flags.flags, Image.{Image, start}, Report.groups_of, Run.run, Spelling.IsImage, Trace.group_in}
 use Rattle.mm_span.specs.Pairs.{EachPair}
-use Rattle.mm_explore.specs.Schedules.{Before}
+use Rattle.mm_explore.specs.declared.{findings.Findings.Findings, found.Origin.Origin, search.{Made.Made, Search.Search}}
+use Rattle.mm_explore.specs.{Closed.{LeadsOn, IsFirstEndless}, Moves.moves, Explored.{leads_to, IsLeast, IsExplored, IsAll}}
+use Rattle.mm_explore.specs.Findings.{Extension, extended, extensions, explored_turns, turn_at, IsFinal}
+use Rattle.mm_explore.specs.{FoundLists.{HasKept, Looks}, Noting.{Noted, AreNoted}, Schedules.Before}
+use Rattle.mm_explore.specs.Outcomes.{End, Selects, AreEndsOf, AreEnds, IsSteady, slots_at}
 
 -- 1. The list that is found.
 
@@ -85,29 +80,22 @@ pub record Ended (i : Image) (list past : List (List ℕ)) (f : Findings) : Type
 pub record HasCome (i : Image) (s : Search) (done left : List Extension) (past : List (List ℕ)) : Type 0 where
   pub image : IsImage i
   pub groups : s.groups.items ≡ groups_of (start i).core
-  pub bench : IsAtSomeConfiguration i s.bench
-  pub held : Holds i s.found
-  pub room : s.found.limit < 2 ^ 32
-  pub goes : GoesOn s.all i s.found.limit s.found.list done left
-  pub noted : Noted i s.found.list done s.findings
-  pub ended : Ended i s.found.list past s.findings
-  pub graph : s.all ≡ true → IsGraph i s.found.list past s.graph
+  pub kept : HasKept i s.found s.configs
+  pub room : s.limit ≤ 2 ^ 31
+  pub goes : GoesOn s.all i s.limit s.found done left
+  pub noted : Noted i s.found done s.findings
+  pub ended : Ended i s.found past s.findings
+  pub graph : s.all ≡ true → IsGraph i s.found past s.graph
 
 -- a search has gone through the schedules before an index
 abbrev pub IsBefore : Image → Search → ℕ → Type 0
 IsBefore i s at =
-    HasCome i s (flat_map (extensions i) (take at s.found.list)) (flat_map (extensions i) (drop at s.found.list))
-    (take at s.found.list)
+    HasCome i s (flat_map (extensions i) (take at s.found)) (flat_map (extensions i) (drop at s.found))
+    (take at s.found)
 
--- the schedule of a node
-abbrev pub node_schedule : Search → Node → List ℕ
-node_schedule s node = slice_index_or s.found.list node.at []
-
--- a node has the parts and the moves of its schedule
-pub record IsNode (i : Image) (s : Search) (node : Node) : Type 0 where
-  pub inside : node.at < length s.found.list
-  pub parts : ArePartsAt i (node_schedule s node) node.parts
-  pub moves : node.moves.items ≡ moves (run (start i) (node_schedule s node))
+-- the schedule at an index
+abbrev pub schedule_at : Search → ℕ → List ℕ
+schedule_at s at = slice_index_or s.found at []
 
 -- the turns of the schedules before an index, and the first `k` of those from the schedule at the index
 abbrev pub turns_before : Image → List (List ℕ) → ℕ → ℕ → List Extension
@@ -119,13 +107,12 @@ abbrev pub turns_from : Image → List (List ℕ) → ℕ → ℕ → List Exten
 turns_from i list at k =
     drop k (extensions i (slice_index_or list at [])) ++ flat_map (extensions i) (drop (at + 1) list)
 
--- a search has made the first `k` moves of a node
-pub record IsWithin (i : Image) (s : Search) (node : Node) (k : ℕ) : Type 0 where
-  pub is : IsNode i s node
-  pub come : HasCome i s (turns_before i s.found.list node.at k) (turns_from i s.found.list node.at k)
-      (take node.at s.found.list)
-  pub children : s.all ≡ true
-      → AllZip (IsChild i s.found.list (node_schedule s node)) (take k node.moves.items) s.children.items
+-- a search has made the first `k` moves of the configuration at an index
+pub record IsWithin (i : Image) (s : Search) (at k : ℕ) : Type 0 where
+  pub inside : at < length s.found
+  pub moves : s.moves.items ≡ moves (run (start i) (schedule_at s at))
+  pub come : HasCome i s (turns_before i s.found at k) (turns_from i s.found at k) (take at s.found)
+  pub children : s.all ≡ true → AllZip (IsChild i s.found (schedule_at s at)) (take k s.moves.items) s.children.items
 
 -- whether a move leads back to the configuration from which it is made
 abbrev pub StaysBy : Bool → Image → List ℕ → ℕ → Type 0
@@ -139,23 +126,38 @@ AllStay false i t ms = IsFinal i t → ⊥
 
 -- 4. One move.
 
+-- a move was made: that of an item after a schedule
+pub record IsMade (i : Image) (t : List ℕ) (item : ℕ) (m : Made) : Type 0 where
+  pub step : m.step ≡ (turn_at i (record { schedule = t; item = item })).step
+  pub group : m.group ≡ group_in (turn_at i (record { schedule = t; item = item }))
+
+-- a search makes the next move of the configuration at an index, which leads back to it or does not
+pub record Makes (i : Image) (stays : Bool) (old new : Search) (at k : ℕ) : Type 0 where
+  pub within : IsWithin i new at (k + 1)
+  pub schedule : schedule_at new at ≡ schedule_at old at
+  pub moves : new.moves ≡ old.moves
+  pub limit : new.limit ≡ old.limit
+  pub back : StaysBy stays i (schedule_at old at) (slice_index_or old.moves.items k 0)
+
+-- a search has noted the configuration at an index, all of whose moves it has made, if it is final
+pub record IsNotedIfFinal (i : Image) (old new : Search) (at : ℕ) : Type 0 where
+  pub kept : HasKept i old.found new.configs
+  pub noted : Noted i old.found (turns_before i old.found at (length old.moves.items)) new.findings
+  pub ended : Ended i old.found (take (at + 1) old.found) new.findings
+
 -- the index of what was looked up, if there was room
-abbrev pub index_of : Looked → FoundList → Option ℕ
+abbrev pub index_of : Looked → List (List ℕ) → Option ℕ
 index_of (Known at) old = Some at
-index_of New old = Some (length old.list)
+index_of New old = Some (length old)
 index_of Full old = None
 
--- a search looked these numbers up
-pub record Met (numbers : List ℕ) (o : Origin) (c : Option ℕ) (old new : Search) : Type 0 where
+-- a search looked up the configuration to which an origin leads
+pub record Met (i : Image) (o : Origin) (c : Option ℕ) (old new : Search) : Type 0 where
   pub looked : Looked
-  pub looks : Looks looked numbers o old.found new.found
+  pub looks : Looks i old.limit looked o old.found new.found
+  pub kept : HasKept i new.found new.configs
   pub child : c ≡ index_of looked old.found
-  pub all : new.all ≡ old.all
-  pub groups : new.groups ≡ old.groups
-  pub bench : new.bench ≡ old.bench
-  pub findings : new.findings ≡ old.findings
-  pub graph : new.graph ≡ old.graph
-  pub children : new.children ≡ old.children
+  pub rest : new ≡ record old { configs = new.configs; found = new.found }
 
 -- 5. Endless sets.
 
@@ -190,22 +192,6 @@ pub record AreSetsSeen (i : Image) (list seen : List (List ℕ)) (entries : List
   pub are : Selects (IsFirstEndless i) seen firsts
   pub sets : AllZip (IsSetSeen i list seen) firsts entries
 
--- whether slots of two lists are not the same
-abbrev pub IsApartBy : Bool → Slot → Slot → Type 0
-IsApartBy true a b = a ≡ b → ⊥
-IsApartBy false a b = a ≡ b
-
-abbrev pub AreApart : List Bool → List Slot → List Slot → Type 0
-AreApart [] [] [] = Unit {0}
-AreApart (f ∷ flags) (s ∷ slots) (o ∷ others) = IsApartBy f s o × AreApart flags slots others
-AreApart _ _ _ = ⊥
-
--- a flag for each slot of two lists: whether the numbers of their differences from the image's slot are not the same
-abbrev pub apart_flags : List Slot → List Slot → List Slot → List Bool
-apart_flags (b ∷ base) (s ∷ slots) (o ∷ others) =
-    not (pointwise nat_eq (slot_form b s) (slot_form b o)) ∷ apart_flags base slots others
-apart_flags _ _ _ = []
-
 -- what is noted of an endless set: the index of its first schedule, and a mask of the slots that are busy
 pub record IsBusySet (i : Image) (list : List (List ℕ)) (t : List ℕ) (entry : ℕ × ℕ) : Type 0 where
   pub at : slice_get list entry.0 ≡ Some t
@@ -220,5 +206,5 @@ pub record AreBusySets (i : Image) (list : List (List ℕ)) (entries : List (ℕ
 -- a search has noted all ends
 pub record HasEnds (i : Image) (s : Search) : Type 0 where
   pub ends : List End
-  pub noted : AreNoted i s.found.list ends s.findings
-  pub are : AreEnds i s.found.list s.all ends
+  pub noted : AreNoted i s.found ends s.findings
+  pub are : AreEnds i s.found s.all ends

@@ -1,26 +1,20 @@
 //! Sets of configurations that are never left, and their outcomes.
 
-ghost use Rattle.std.specs.Prelude.{◌≡◌, ℕ, ◌+◌, ◌<◌, ◌≤◌, ◌^◌, ◌↔◌, [], IfOk, OnOk, IsTrue, length, nat_eq, bit_or};
-ghost use Rattle.std.specs.Prelude.{slice_index_or, take, unwrap_or};
+ghost use Rattle.std.specs.Prelude.{◌≡◌, ◌+◌, ◌<◌, ◌↔◌, [], IfOk, OnOk, IsTrue, length, nat_eq, bit_or};
+ghost use Rattle.std.specs.Prelude.{take, unwrap_or};
 ghost use Rattle.std.specs.List.{AllByRecursion};
 ghost use Rattle.indexmap.specs.IndexMap.{get, insert_entry};
-ghost use lib.Pointwise.{pointwise};
 ghost use Rattle.mm_endless.specs.Graphs.{AreClosedSets};
-ghost use Rattle.mm_model.specs.Flags.{flags, number_of_flags};
 ghost use Rattle.mm_explore.specs.Findings.{explored_turns};
-ghost use Rattle.mm_explore.specs.{Kept.slot_form, Noting.Noted, Outcomes.slots_at};
-ghost use Rattle.mm_explore.specs.Searching.{HasCome, HasEnds, AreBusySets, AreSetsSeen, AreApart, apart_flags};
+ghost use Rattle.mm_explore.specs.{FoundLists.HasKept, Noting.Noted};
+ghost use Rattle.mm_explore.specs.Searching.{HasCome, HasEnds, AreBusySets, AreSetsSeen};
 
 use crate::ends::End;
 use crate::explored::Ending;
-use crate::parts::{take_parts, take_slots};
-use crate::reader::Reader;
 use crate::search::Search;
-use crate::slot_form::put_slot;
 use indexmap::IndexMap;
 use mm_endless::{ClosedSets, closed_sets};
 use mm_image::Image;
-use mm_model::Slot;
 use std::alloc::{AllocError, Global};
 
 /// The slots that change in each endless set, by the index of the first configuration of the set. Slots are set in a
@@ -39,48 +33,6 @@ fn stays(children: &[u32], node: u32) -> bool
     true
 }
 
-/// Whether two slots are the same, but for their counts of turns: their differences from that of the image are.
-fn is_same_slot(alloc: Global, base: &Slot, one: &Slot, other: &Slot) -> Result<bool, AllocError>
-    ensures { IfOk result (λ same. same
-        ≡ pointwise nat_eq (slot_form base.now one.now) (slot_form base.now other.now)) }
-{
-    let mut before = Vec::new(alloc);
-    put_slot(&mut before, base, one)?;
-    let mut after = Vec::new(alloc);
-    put_slot(&mut after, base, other)?;
-    Ok(before.as_slice() == after.as_slice())
-}
-
-/// The slots that differ in two configurations, set in a mask, the first in the lowest bit. The slots of the image are
-/// those from which they are told.
-fn differing(
-    alloc: Global,
-    base: &[Slot],
-    slots: &[Slot],
-    others: &[Slot],
-) -> Result<u64, AllocError>
-    requires few { length base.now ≤ 64 }
-    requires slots { length slots.now ≡ length base.now }
-    requires others { length others.now ≡ length base.now }
-    ensures value { IfOk result (λ mask. mask ≡ number_of_flags (apart_flags base.now slots.now others.now)) }
-    ensures below { IfOk result (λ mask. mask < 2 ^ length base.now) }
-{
-    match base {
-        [] => Ok(0),
-        [first, base @ ..] => match slots {
-            [] => Ok(0),
-            [one, slots @ ..] => match others {
-                [] => Ok(0),
-                [other, others @ ..] => {
-                    let same = is_same_slot(alloc, first, one, other)?;
-                    let rest = differing(alloc, base, slots, others)?;
-                    Ok(!same as u64 + 2 * rest)
-                }
-            },
-        },
-    }
-}
-
 /// Adds slots to those that change in a set.
 fn add(busy: &mut BusySlots, first: u32, slots: u64) -> Result<(), AllocError>
     ensures { OnOk result (busy.new.entries ≡ insert_entry nat_eq busy.old.entries first
@@ -94,11 +46,12 @@ fn add(busy: &mut BusySlots, first: u32, slots: u64) -> Result<(), AllocError>
 impl Search {
     /// Notes the outcome of each endless set, if there was room for each configuration that was met.
     pub(crate) fn note_endless(&mut self, alloc: Global, img: &Image) -> Result<(), AllocError>
-        requires { HasCome img.now self.old (explored_turns img.now self.old.found.list) [] self.old.found.list }
+        requires { HasCome img.now self.old (explored_turns img.now self.old.found) [] self.old.found }
         ensures ends { OnOk result (HasEnds img.now self.new) }
-        ensures noted { OnOk result (Noted img.now self.old.found.list (explored_turns img.now self.old.found.list)
+        ensures noted { OnOk result (Noted img.now self.old.found (explored_turns img.now self.old.found)
             self.new.findings) }
-        ensures rest { self.new ≡ record self.old { findings = self.new.findings } }
+        ensures kept { OnOk result (HasKept img.now self.old.found self.new.configs) }
+        ensures rest { self.new ≡ record self.old { configs = self.new.configs; findings = self.new.findings } }
     {
         if !self.all {
             return Ok(());
@@ -109,36 +62,38 @@ impl Search {
 
     /// Notes the outcome of each of these endless sets.
     fn note_sets(&mut self, alloc: Global, img: &Image, busy: &BusySlots) -> Result<(), AllocError>
-        requires come { HasCome img.now self.old (explored_turns img.now self.old.found.list) [] self.old.found.list }
+        requires come { HasCome img.now self.old (explored_turns img.now self.old.found) [] self.old.found }
         requires all { IsTrue self.old.all }
-        requires sets { AreBusySets img.now self.old.found.list busy.now.entries }
+        requires sets { AreBusySets img.now self.old.found busy.now.entries }
         ensures ends { OnOk result (HasEnds img.now self.new) }
-        ensures noted { OnOk result (Noted img.now self.old.found.list (explored_turns img.now self.old.found.list)
+        ensures noted { OnOk result (Noted img.now self.old.found (explored_turns img.now self.old.found)
             self.new.findings) }
-        ensures rest { self.new ≡ record self.old { findings = self.new.findings } }
+        ensures kept { OnOk result (HasKept img.now self.old.found self.new.configs) }
+        ensures rest { self.new ≡ record self.old { configs = self.new.configs; findings = self.new.findings } }
     {
         for (at, slots) in busy.iter() {
-            let parts = take_parts(alloc, img, &self.groups, self.found.numbers(*at as usize))?;
+            self.configs.put(*at as usize)?;
             let end = End {
                 at: *at,
                 ending: Ending::Endless,
                 busy: *slots,
             };
-            self.findings.note_end(alloc, end, &parts)?;
+            self.findings
+                .note_end(alloc, end, self.configs.core(), &self.groups)?;
         }
         Ok(())
     }
 
     /// The slots that change in each endless set.
     fn busy_slots(&self, alloc: Global, img: &Image) -> Result<BusySlots, AllocError>
-        requires come { HasCome img.now self.now (explored_turns img.now self.now.found.list) [] self.now.found.list }
+        requires come { HasCome img.now self.now (explored_turns img.now self.now.found) [] self.now.found }
         requires all { IsTrue self.now.all }
-        ensures { IfOk result (λ busy. AreBusySets img.now self.now.found.list busy.entries) }
+        ensures { IfOk result (λ busy. AreBusySets img.now self.now.found busy.entries) }
     {
         let sets = closed_sets(alloc, &self.graph)?;
         let mut busy = IndexMap::new(alloc);
         for at in 0..self.found.len() {
-            self.note_member(alloc, img, &sets, at, &mut busy)?;
+            self.note_member(img, &sets, at, &mut busy)?;
         }
         Ok(busy)
     }
@@ -147,61 +102,27 @@ impl Search {
     /// first.
     fn note_member(
         &self,
-        alloc: Global,
         img: &Image,
         sets: &ClosedSets,
         at: usize,
         busy: &mut BusySlots,
     ) -> Result<(), AllocError>
-        requires come { HasCome img.now self.now (explored_turns img.now self.now.found.list) [] self.now.found.list }
+        requires come { HasCome img.now self.now (explored_turns img.now self.now.found) [] self.now.found }
         requires all { IsTrue self.now.all }
-        requires inside { at < length self.now.found.list }
+        requires inside { at < length self.now.found }
         requires sets { AreClosedSets self.now.graph sets.now }
-        requires seen { AreSetsSeen img.now self.now.found.list (take at self.now.found.list) busy.old.entries }
-        ensures { OnOk result (AreSetsSeen img.now self.now.found.list (take (at + 1) self.now.found.list)
+        requires seen { AreSetsSeen img.now self.now.found (take at self.now.found) busy.old.entries }
+        ensures { OnOk result (AreSetsSeen img.now self.now.found (take (at + 1) self.now.found)
             busy.new.entries) }
     {
         match sets.first(at) {
             None => Ok(()),
             Some(first) if first as usize != at => {
-                let slots = self.changed_slots(alloc, img, first as usize, at)?;
+                let slots = self.configs.differing(first as usize, at)?;
                 add(busy, first, slots)
             }
             Some(first) if stays(self.graph.children(at), first) => Ok(()),
             Some(first) => add(busy, first, 0),
         }
-    }
-
-    /// The slots in which two configurations differ.
-    fn changed_slots(
-        &self,
-        alloc: Global,
-        img: &Image,
-        one: usize,
-        other: usize,
-    ) -> Result<u64, AllocError>
-        requires come { HasCome img.now self.now (explored_turns img.now self.now.found.list) [] self.now.found.list }
-        requires one { one < length self.now.found.list }
-        requires other { other < length self.now.found.list }
-        ensures { IfOk result (λ slots. AreApart
-            (flags (length (slots_at img.now (slice_index_or self.now.found.list one []))) slots)
-            (slots_at img.now (slice_index_or self.now.found.list one []))
-            (slots_at img.now (slice_index_or self.now.found.list other []))) }
-    {
-        let before = self.slots(alloc, img, one)?;
-        let after = self.slots(alloc, img, other)?;
-        differing(alloc, img.slots(), &before, &after)
-    }
-
-    /// The slots of a configuration.
-    fn slots(&self, alloc: Global, img: &Image, at: usize) -> Result<Vec<Slot>, AllocError>
-        requires come { HasCome img.now self.now (explored_turns img.now self.now.found.list) [] self.now.found.list }
-        requires inside { at < length self.now.found.list }
-        ensures { IfOk result (λ slots. slots.items ≡ slots_at img.now (slice_index_or self.now.found.list at [])) }
-    {
-        let mut reader = Reader::new(self.found.numbers(at));
-        let mut slots = Vec::new(alloc);
-        take_slots(&mut reader, img.slots(), &mut slots)?;
-        Ok(slots)
     }
 }

@@ -4,18 +4,18 @@ ghost use Rattle.std.specs.Prelude.{◌≡◌, ◌+◌, ◌<◌, ◌^◌, ◌++�
 ghost use Rattle.std.specs.List.{AllByRecursion, flat_map};
 ghost use Rattle.indexmap.specs.IndexMap.{get, insert_entry, IsUnique};
 ghost use lib.Pointwise.{pointwise};
+ghost use Rattle.mm_model.specs.Fits.{slots_of};
 ghost use Rattle.mm_model.specs.Flags.{flags};
+ghost use Rattle.mm_model.specs.State.{output_of};
 ghost use Rattle.mm_explore.specs.declared.explored.Standing.TheVariants.{Busy, In};
 ghost use Rattle.mm_explore.specs.Outcomes.{ending_number as ending_number_of, standing_number as standing_number_of};
 ghost use Rattle.mm_explore.specs.Noting.{bytes_form, outcome_form, outcome_held, standings_of, tally_after};
 
 use crate::explored::{Ending, Standing};
-use crate::part_forms::put_output;
-use crate::parts::Parts;
-use crate::slot_form::state_number;
 use indexmap::IndexMap;
-use mm_model::{Slot, SlotState};
-use mm_thread::Output;
+use mm_config::state_number;
+use mm_model::SlotState;
+use mm_thread::Core;
 use std::alloc::{AllocError, Global};
 
 /// An end: a final configuration, or the first of an endless set.
@@ -68,42 +68,53 @@ fn standing_number(standing: Standing) -> u64
 }
 
 /// Appends the numbers of how slots stand. The busy ones are set in a mask, the first in the lowest bit.
-fn put_standings(key: &mut Vec<u64>, slots: &[Slot], busy: u64) -> Result<(), AllocError>
-    ensures { OnOk result (key.new.items ≡ key.old.items
-        ++ map standing_number_of (standings_of (flags (length slots.now) busy) slots.now)) }
+fn put_standings(key: &mut Vec<u64>, core: &Core, busy: u64) -> Result<(), AllocError>
+    ensures { OnOk result (key.new.items ≡ key.old.items ++ map standing_number_of
+        (standings_of (flags (length (slots_of core.now)) busy) (slots_of core.now))) }
 {
-    match slots {
-        [] => Ok(()),
-        [slot, rest @ ..] => {
-            key.push(standing_number(standing(busy % 2 == 1, slot.state)))?;
-            put_standings(key, rest, busy / 2)
-        }
+    core.known();
+    for at in 0..core.count() {
+        let slot = core.nth(at);
+        key.push(standing_number(standing(busy >> at & 1 == 1, slot.state)))?;
     }
+    Ok(())
 }
 
-/// Appends outputs.
-fn put_bytes(key: &mut Vec<u64>, outputs: &[Output]) -> Result<(), AllocError>
-    ensures { OnOk result (key.new.items ≡ key.old.items ++ flat_map bytes_form (map (λ o. o.bytes) outputs.now)) }
+/// Appends an output: the count of its bytes, and each of them.
+fn put_output(key: &mut Vec<u64>, output: &[u8]) -> Result<(), AllocError>
+    ensures { OnOk result (key.new.items ≡ key.old.items ++ bytes_form output.now) }
 {
-    match outputs {
-        [] => Ok(()),
-        [output, rest @ ..] => {
-            put_output(key, &output.bytes)?;
-            put_bytes(key, rest)
-        }
+    key.push(output.len() as u64)?;
+    for byte in output {
+        key.push(u64::from(*byte))?;
     }
+    Ok(())
 }
 
-/// The numbers of the outcome of an end, given its parts.
-pub(crate) fn outcome_key(alloc: Global, end: End, parts: &Parts) -> Result<Vec<u64>, AllocError>
-    ensures { IfOk result (λ key. key.items ≡ outcome_form (outcome_held end parts.now)) }
+/// Appends the outputs of groups.
+fn put_outputs(key: &mut Vec<u64>, core: &Core, groups: &[u8]) -> Result<(), AllocError>
+    ensures { OnOk result (key.new.items ≡ key.old.items ++ flat_map bytes_form (map (output_of core.now) groups.now)) }
+{
+    for group in groups {
+        put_output(key, core.output(*group))?;
+    }
+    Ok(())
+}
+
+/// The numbers of the outcome of an end, given the machine at it. The groups are those that have a slot.
+pub(crate) fn outcome_key(
+    alloc: Global,
+    end: End,
+    core: &Core,
+    groups: &[u8],
+) -> Result<Vec<u64>, AllocError>
+    ensures { IfOk result (λ key. key.items ≡ outcome_form (outcome_held end core.now groups.now)) }
 {
     let mut key = Vec::new(alloc);
-    let slots = parts.slots.as_slice();
     key.push(ending_number(end.ending))?;
-    key.push(slots.len() as u64)?;
-    put_standings(&mut key, slots, end.busy)?;
-    put_bytes(&mut key, &parts.outputs)?;
+    key.push(core.count() as u64)?;
+    put_standings(&mut key, core, end.busy)?;
+    put_outputs(&mut key, core, groups)?;
     Ok(key)
 }
 

@@ -56,9 +56,9 @@ fn put_fault(
     cause: u8,
     found: &Found,
 ) -> Result<(), AllocError>
-    requires { IfSome (get order faults.now (slot, cause)) (λ o. o.from < length found.now.list) }
+    requires { IfSome (get order faults.now (slot, cause)) (λ o. o.from < length found.now) }
     ensures { OnOk result (out.new.items
-        ≡ out.old.items ++ fault_kept found.now.list slot cause (get order faults.now (slot, cause))) }
+        ≡ out.old.items ++ fault_kept found.now slot cause (get order faults.now (slot, cause))) }
 {
     if let Some(origin) = faults.get(&(slot, cause)) {
         let by = found.schedule(alloc, origin.from as usize, Some(origin.item))?;
@@ -75,9 +75,9 @@ pub(crate) fn put_faults(
     slot: u8,
     found: &Found,
 ) -> Result<(), AllocError>
-    requires { (cause : ℕ) → IfSome (get order faults.now (slot, cause)) (λ o. o.from < length found.now.list) }
+    requires { (cause : ℕ) → IfSome (get order faults.now (slot, cause)) (λ o. o.from < length found.now) }
     ensures { OnOk result (out.new.items ≡ out.old.items
-        ++ flat_map (λ cause. fault_kept found.now.list slot cause (get order faults.now (slot, cause))) cause_numbers) }
+        ++ flat_map (λ cause. fault_kept found.now slot cause (get order faults.now (slot, cause))) cause_numbers) }
 {
     for cause in 1..Cause::LAST_NUMBER + 1 {
         put_fault(alloc, out, faults, slot, cause, found)?;

@@ -7,28 +7,27 @@ ghost use Rattle.std.specs.List.{flat_map};
 ghost use Rattle.mm_word.specs.Cause.{cause_numbers};
 ghost use Rattle.mm_model.specs.Image.{Image as ImageValue, start};
 ghost use Rattle.mm_model.specs.Report.{groups_of};
-ghost use Rattle.mm_model.specs.Spelling.{IsImage};
 ghost use Rattle.mm_model.specs.Trace.{group_in};
-ghost use Rattle.mm_explore.specs.Benches.{ArePartsAt};
-ghost use Rattle.mm_explore.specs.Explored.{IsExplored, IsAll};
+ghost use Rattle.mm_explore.specs.Explored.{leads_to, IsExplored, IsAll};
 ghost use Rattle.mm_explore.specs.Findings.{Extension, turn_at, explored_turns};
-ghost use Rattle.mm_explore.specs.FoundLists.{IsOrigin, Holds};
+ghost use Rattle.mm_explore.specs.FoundLists.{HasKept, IsOrigin};
 ghost use Rattle.mm_explore.specs.Noting.{Noted, AreNoted, fault_kept, outcome_held};
 ghost use Rattle.mm_explore.specs.Outcomes.{End as EndValue, AreEnds};
 ghost use Rattle.mm_explore.specs.Finds.{Finds};
 ghost use Rattle.mm_explore.specs.Words.{order};
 
-use crate::bench::Made;
 use crate::ends::{End, Tally, count_end, outcome_key};
 use crate::explored::{Explored, FaultFound};
 use crate::faults::{note_fault, put_faults};
 use crate::found::{Found, Origin};
 use crate::outcomes::put_outcomes;
-use crate::parts::Parts;
 use crate::reached::{Words, put_groups};
+use crate::search::Made;
 use indexmap::IndexMap;
+use mm_config::Configs;
 use mm_image::Image;
 use mm_model::Slot;
+use mm_thread::Core;
 use std::alloc::{AllocError, Global};
 use std::collections::BTreeMap;
 
@@ -48,8 +47,8 @@ fn list_faults(
     slots: &[Slot],
     found: &Found,
 ) -> Result<(), AllocError>
-    requires { (key : ℕ × ℕ) → IfSome (get order faults.now key) (λ o. o.from < length found.now.list) }
-    ensures { OnOk result (out.new.items ≡ out.old.items ++ flat_map (λ s. flat_map (λ cause. fault_kept found.now.list
+    requires { (key : ℕ × ℕ) → IfSome (get order faults.now key) (λ o. o.from < length found.now) }
+    ensures { OnOk result (out.new.items ≡ out.old.items ++ flat_map (λ s. flat_map (λ cause. fault_kept found.now
         s.number cause (get order faults.now (s.number, cause))) cause_numbers) slots.now) }
 {
     for slot in slots {
@@ -84,22 +83,25 @@ impl Findings {
         note_fault(&mut self.faults, &made.step, origin)
     }
 
-    /// Notes an end, given its parts.
+    /// Notes an end, given the machine at it. The groups are those that have a slot.
     pub(crate) fn note_end(
         &mut self,
         alloc: Global,
         end: End,
-        parts: &Parts,
+        core: &Core,
+        groups: &[u8],
     ) -> Result<(), AllocError>
         requires room { (i : ImageValue) × (list : List (List ℕ)) × (ends : List EndValue) × AreNoted i list ends self.old
             × (length ends < 2 ^ 32) }
         ensures noted { OnOk result ((i : ImageValue) (list : List (List ℕ)) (done : List Extension)
             → Noted i list done self.old → Noted i list done self.new) }
         ensures ends { OnOk result ((i : ImageValue) (list : List (List ℕ)) (ends : List EndValue) (t : List ℕ)
-            → IsImage i → AreNoted i list ends self.old → slice_get list end.at ≡ Some t → ArePartsAt i t parts.now
-            → AreNoted i list (ends ++ record { schedule = t; outcome = outcome_held end parts.now } ∷ []) self.new) }
+            → AreNoted i list ends self.old → slice_get list end.at ≡ Some t → core.now ≡ (leads_to i t).core
+            → groups.now ≡ groups_of (start i).core
+            → AreNoted i list (ends ++ record { schedule = t; outcome = outcome_held end core.now groups.now } ∷ [])
+            self.new) }
     {
-        let key = outcome_key(alloc, end, parts)?;
+        let key = outcome_key(alloc, end, core, groups)?;
         count_end(&mut self.ends, key, end)
     }
 
@@ -110,15 +112,16 @@ impl Findings {
         img: &Image,
         groups: &[u8],
         found: &Found,
+        configs: &mut Configs,
         all: bool,
     ) -> Result<Explored, AllocError>
         requires groups { groups.now ≡ groups_of (start img.now).core }
-        requires held { Holds img.now found.now }
-        requires noted { Noted img.now found.now.list (explored_turns img.now found.now.list) self.now }
-        requires ends { (ends : List EndValue) × AreNoted img.now found.now.list ends self.now }
-        ensures { IfOk result (λ e. (limit : ℕ) (ends : List EndValue) → IsExplored img.now limit found.now.list
-            → (all ≡ true → IsAll img.now found.now.list) → (all ≡ false → IsAll img.now found.now.list → ⊥)
-            → AreNoted img.now found.now.list ends self.now → AreEnds img.now found.now.list all ends
+        requires kept { HasKept img.now found.now configs.old }
+        requires noted { Noted img.now found.now (explored_turns img.now found.now) self.now }
+        requires ends { (ends : List EndValue) × AreNoted img.now found.now ends self.now }
+        ensures { IfOk result (λ e. (limit : ℕ) (ends : List EndValue) → IsExplored img.now limit found.now
+            → (all ≡ true → IsAll img.now found.now) → (all ≡ false → IsAll img.now found.now → ⊥)
+            → AreNoted img.now found.now ends self.now → AreEnds img.now found.now all ends
             → Finds img.now limit e) }
     {
         let mut reached = Vec::new(alloc);
@@ -126,7 +129,15 @@ impl Findings {
         let mut faults = Vec::new(alloc);
         list_faults(alloc, &mut faults, &self.faults, img.slots(), found)?;
         let mut outcomes = Vec::new(alloc);
-        put_outcomes(alloc, &mut outcomes, &self.ends, img, groups, found)?;
+        put_outcomes(
+            alloc,
+            &mut outcomes,
+            &self.ends,
+            img,
+            groups,
+            found,
+            configs,
+        )?;
         Ok(Explored {
             count: found.len() as u64,
             all,

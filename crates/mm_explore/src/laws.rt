@@ -3,7 +3,7 @@
 //! These functions do nothing when they run: the contract of each is a law.
 ghost use Rattle.mm_explore.specs.Laws.{ConfigurationsGoOn, OthersAreIdle, RunsAreFound, FindingsAreMet, RunsEndOrTurn};
 ghost use Rattle.mm_explore.specs.Laws.{ClosedSetsAreLedOn, FinalsAreClosed, OutcomesAreOfSets};
-ghost use Rattle.mm_explore.specs.Laws.{ExplorationsAreOne, KeptFormsAreConfigurations, LeastSchedulesAreMoves};
+ghost use Rattle.mm_explore.specs.Laws.{ExplorationsAreOne, LeastSchedulesAreMoves};
 
 /// States of one configuration have the same moves, and the cycle of an item has in both the same outcome, the same
 /// accesses and the same entry, and leads to one configuration.
@@ -50,11 +50,6 @@ pub fn findings_are_met()
 /// What an exploration finds is determined by the image and the limit.
 pub fn explorations_are_one()
     ensures { ExplorationsAreOne }
-{}
-
-/// What is kept of the states of two runs of an image is the same exactly if they are of one configuration.
-pub fn kept_forms_are_configurations()
-    ensures { KeptFormsAreConfigurations }
 {}
 
 /// A least schedule that is not empty is a least schedule and, after it, a move of the state to which that leads. So

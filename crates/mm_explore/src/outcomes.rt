@@ -2,36 +2,57 @@
 
 ghost use Rattle.std.specs.Prelude.{◌≡◌, ℕ, ◌++◌, List, IfOk, OnOk, length, map, zip};
 ghost use Rattle.std.specs.List.{AllZip};
+ghost use Rattle.mm_model.specs.Fits.{slots_of};
 ghost use Rattle.mm_model.specs.Flags.{flags};
 ghost use Rattle.mm_model.specs.Image.{start};
 ghost use Rattle.mm_model.specs.Report.{groups_of};
 ghost use Rattle.mm_model.specs.Spelling.{IsImage};
-ghost use Rattle.mm_explore.specs.Finds.{outcome_found};
-ghost use Rattle.mm_explore.specs.FoundLists.{Holds};
+ghost use Rattle.mm_model.specs.State.{output_of};
+ghost use Rattle.mm_explore.specs.Finds.{as_output, outcome_found};
+ghost use Rattle.mm_explore.specs.FoundLists.{HasKept};
 ghost use Rattle.mm_explore.specs.Noting.{IsKeptEnd, standings_of};
 ghost use Rattle.mm_explore.specs.Outcomes.{End as EndValue, count_of};
 
 use crate::ends::{End, Tally, standing};
 use crate::explored::{OutcomeFound, Standing};
 use crate::found::Found;
-use crate::parts::{Parts, take_parts};
 use indexmap::IndexMap;
+use mm_config::Configs;
 use mm_image::Image;
-use mm_model::Slot;
+use mm_thread::{Core, Output};
 use std::alloc::{AllocError, Global};
 
 /// Appends the number of each slot, and how it stands. The busy ones are set in a mask, the first in the lowest bit.
-fn put_slots(out: &mut Vec<(u8, Standing)>, slots: &[Slot], busy: u64) -> Result<(), AllocError>
-    ensures { OnOk result (out.new.items ≡ out.old.items
-        ++ zip (map (λ s. s.number) slots.now) (standings_of (flags (length slots.now) busy) slots.now)) }
+fn put_slots(out: &mut Vec<(u8, Standing)>, core: &Core, busy: u64) -> Result<(), AllocError>
+    ensures { OnOk result (out.new.items ≡ out.old.items ++ zip (map (λ s. s.number) (slots_of core.now))
+        (standings_of (flags (length (slots_of core.now)) busy) (slots_of core.now))) }
 {
-    match slots {
-        [] => Ok(()),
-        [slot, rest @ ..] => {
-            out.push((slot.number, standing(busy % 2 == 1, slot.state)))?;
-            put_slots(out, rest, busy / 2)
-        }
+    core.known();
+    for at in 0..core.count() {
+        let slot = core.nth(at);
+        out.push((slot.number, standing(busy >> at & 1 == 1, slot.state)))?;
     }
+    Ok(())
+}
+
+/// Appends the output of each of these groups.
+fn put_outputs(
+    alloc: Global,
+    out: &mut Vec<Output>,
+    core: &Core,
+    groups: &[u8],
+) -> Result<(), AllocError>
+    ensures { OnOk result (out.new.items
+        ≡ out.old.items ++ map as_output (zip groups.now (map (output_of core.now) groups.now))) }
+{
+    for group in groups {
+        let bytes = Vec::from_slice(alloc, core.output(*group))?;
+        out.push(Output {
+            group: *group,
+            bytes,
+        })?;
+    }
+    Ok(())
 }
 
 /// The outcome that so many ends have, given the first of them. The groups are those that have a slot.
@@ -40,23 +61,27 @@ fn outcome(
     img: &Image,
     groups: &[u8],
     found: &Found,
+    configs: &mut Configs,
     tally: Tally,
 ) -> Result<OutcomeFound, AllocError>
     requires image { IsImage img.now }
     requires groups { groups.now ≡ groups_of (start img.now).core }
-    requires held { Holds img.now found.now }
+    requires kept { HasKept img.now found.now configs.old }
     requires end { (ends : List EndValue) × (e : EndValue) × (key : List ℕ)
-        × IsKeptEnd img.now found.now.list ends e key tally }
-    ensures { IfOk result (λ o. (ends : List EndValue) (e : EndValue) (key : List ℕ)
-        → IsKeptEnd img.now found.now.list ends e key tally
+        × IsKeptEnd img.now found.now ends e key tally }
+    ensures kept { OnOk result (HasKept img.now found.now configs.new) }
+    ensures outcome { IfOk result (λ o. (ends : List EndValue) (e : EndValue) (key : List ℕ)
+        → IsKeptEnd img.now found.now ends e key tally
         → o ≡ outcome_found img.now (count_of ends e.outcome) e.outcome e.schedule) }
 {
     let End { at, ending, busy } = tally.first;
-    let parts = take_parts(alloc, img, groups, found.numbers(at as usize))?;
+    configs.put(at as usize)?;
+    let core = configs.core();
     let mut slots = Vec::new(alloc);
-    put_slots(&mut slots, &parts.slots, busy)?;
+    put_slots(&mut slots, core, busy)?;
+    let mut outputs = Vec::new(alloc);
+    put_outputs(alloc, &mut outputs, core, groups)?;
     let by = found.schedule(alloc, at as usize, None)?;
-    let Parts { outputs, .. } = parts;
     Ok(OutcomeFound {
         count: tally.count,
         ending,
@@ -74,19 +99,20 @@ pub(crate) fn put_outcomes(
     img: &Image,
     groups: &[u8],
     found: &Found,
+    configs: &mut Configs,
 ) -> Result<(), AllocError>
     requires image { IsImage img.now }
     requires groups { groups.now ≡ groups_of (start img.now).core }
-    requires held { Holds img.now found.now }
+    requires kept { HasKept img.now found.now configs.old }
     requires ends { (all : List EndValue) × (some : List EndValue)
-        × AllZip (λ e entry. IsKeptEnd img.now found.now.list all e entry.0.items entry.1) some ends.now.entries }
+        × AllZip (λ e entry. IsKeptEnd img.now found.now all e entry.0.items entry.1) some ends.now.entries }
     ensures { OnOk result ((all some : List EndValue)
-        → AllZip (λ e entry. IsKeptEnd img.now found.now.list all e entry.0.items entry.1) some ends.now.entries
+        → AllZip (λ e entry. IsKeptEnd img.now found.now all e entry.0.items entry.1) some ends.now.entries
         → out.new.items ≡ out.old.items
         ++ map (λ e. outcome_found img.now (count_of all e.outcome) e.outcome e.schedule) some) }
 {
     for (_, tally) in ends.iter() {
-        let outcome = outcome(alloc, img, groups, found, *tally)?;
+        let outcome = outcome(alloc, img, groups, found, configs, *tally)?;
         out.push(outcome)?;
     }
     Ok(())

@@ -1,32 +1,31 @@
 //! The search over all schedules, breadth first.
 
-ghost use Rattle.std.specs.Prelude.{◌≡◌, ℕ, ◌+◌, ◌<◌, ◌≤◌, ◌++◌, ◌∷◌, [], IfOk, OnOk, length};
-ghost use Rattle.std.specs.Prelude.{filter, slice_index_or, List, true, false};
-ghost use Rattle.std.specs.List.{AllByRecursion, flat_map, range_with_len};
+ghost use Rattle.std.specs.Prelude.{◌≡◌, ℕ, ◌+◌, ◌<◌, ◌≤◌, ◌^◌, ◌++◌, ◌∷◌, [], IfOk, OnOk, length};
+ghost use Rattle.std.specs.Prelude.{filter, slice_index_or, List, true};
+ghost use Rattle.std.specs.List.{flat_map, range_with_len};
+ghost use Rattle.mm_config.specs.{Keeping.Stands, Machines.Configs as ConfigsValue};
+ghost use Rattle.mm_model.specs.Fits.{slots_of};
 ghost use Rattle.mm_model.specs.Groups.{has_group as has_group_of};
-ghost use Rattle.mm_model.specs.Image.{start};
+ghost use Rattle.mm_model.specs.Image.{Image as ImageValue};
 ghost use Rattle.mm_model.specs.Limits.{state_limit};
-ghost use Rattle.mm_model.specs.Run.{run};
-ghost use Rattle.mm_model.specs.Slot.{Slot as SlotValue};
-ghost use Rattle.mm_model.specs.Report.{groups_of};
-ghost use Rattle.mm_explore.specs.Benches.{IsAtConfiguration, IsAtSomeConfiguration};
-ghost use Rattle.mm_explore.specs.Findings.{explored_turns};
-ghost use Rattle.mm_explore.specs.Kept.{kept};
-ghost use Rattle.mm_explore.specs.MoveLists.{running_item, loaded_item, ports_in, moves_in};
-ghost use Rattle.mm_explore.specs.Finds.{Finds};
-ghost use Rattle.mm_explore.specs.Searching.{HasCome, IsBefore, IsNode, IsWithin, StaysBy, AllStay, node_schedule, Met};
-ghost use Rattle.mm_explore.specs.{Findings.are_none, Outcomes.ending_of};
+ghost use Rattle.mm_model.specs.State.{slot_at};
+ghost use Rattle.mm_model.specs.Trace.{group_in, group_of as group_in_option};
+ghost use Rattle.mm_explore.specs.{Findings.{are_none, explored_turns, turn_at}, Finds.Finds};
+ghost use Rattle.mm_explore.specs.FoundLists.{HasKept, IsAt, led_by};
+ghost use Rattle.mm_explore.specs.MoveLists.{running_item, loaded_item, moves_in};
+ghost use Rattle.mm_explore.specs.Outcomes.{ending_of};
+ghost use Rattle.mm_explore.specs.Searching.{HasCome, IsBefore, IsWithin, AllStay, schedule_at};
+ghost use Rattle.mm_explore.specs.Searching.{IsMade, Makes, Met, IsNotedIfFinal};
 
-use crate::bench::{Bench, Made};
 use crate::ends::End;
 use crate::explored::{Ending, Explored};
 use crate::findings::Findings;
-use crate::found::{Found, Looked, Origin};
-use crate::parts::{Parts, take_parts};
-use crate::slot_form::has_loads;
+use crate::found::{Found, Origin};
+use mm_config::{Configs, Looked};
 use mm_endless::Graph;
 use mm_image::{Image, has_group};
-use mm_model::{Slot, SlotState};
+use mm_model::{Slot, SlotState, Step};
+use mm_thread::Core;
 use mm_word::NoMemory;
 use std::alloc::{AllocError, Global};
 
@@ -55,16 +54,13 @@ fn put_if_running(out: &mut Vec<u8>, slot: &Slot) -> Result<(), AllocError>
 }
 
 /// Appends the numbers of the running slots.
-fn put_running(out: &mut Vec<u8>, slots: &[Slot]) -> Result<(), AllocError>
-    ensures { OnOk result (out.new.items ≡ out.old.items ++ flat_map running_item slots.now) }
+fn put_running(out: &mut Vec<u8>, core: &Core) -> Result<(), AllocError>
+    ensures { OnOk result (out.new.items ≡ out.old.items ++ flat_map running_item (slots_of core.now)) }
 {
-    match slots {
-        [] => Ok(()),
-        [slot, rest @ ..] => {
-            put_if_running(out, slot)?;
-            put_running(out, rest)
-        }
+    for at in 0..core.count() {
+        put_if_running(out, core.nth(at))?;
     }
+    Ok(())
 }
 
 /// Appends the item of the port of a slot, if it has a pending load.
@@ -72,71 +68,59 @@ fn put_if_loaded(out: &mut Vec<u8>, slot: &Slot) -> Result<(), AllocError>
     requires { slot.now.number < 64 }
     ensures { OnOk result (out.new.items ≡ out.old.items ++ loaded_item slot.now) }
 {
-    if has_loads(slot) {
+    if !slot.pending.is_empty() {
         out.push(128 + slot.number)?;
     }
     Ok(())
 }
 
 /// Appends the items of the ports of slots with a pending load.
-fn put_loaded(out: &mut Vec<u8>, slots: &[Slot]) -> Result<(), AllocError>
-    requires { AllByRecursion (λ (s : SlotValue). s.number < 64) slots.now }
-    ensures { OnOk result (out.new.items ≡ out.old.items ++ flat_map loaded_item slots.now) }
+fn put_loaded(out: &mut Vec<u8>, core: &Core) -> Result<(), AllocError>
+    ensures { OnOk result (out.new.items ≡ out.old.items ++ flat_map loaded_item (slots_of core.now)) }
 {
-    match slots {
-        [] => Ok(()),
-        [slot, rest @ ..] => {
-            put_if_loaded(out, slot)?;
-            put_loaded(out, rest)
-        }
+    core.known();
+    for at in 0..core.count() {
+        put_if_loaded(out, core.nth(at))?;
     }
+    Ok(())
 }
 
-/// Appends the items of ports, in a split machine.
-fn put_ports(out: &mut Vec<u8>, split: bool, slots: &[Slot]) -> Result<(), AllocError>
-    requires { AllByRecursion (λ (s : SlotValue). s.number < 64) slots.now }
-    ensures { OnOk result (out.new.items ≡ out.old.items ++ ports_in split slots.now) }
+/// Appends the moves of a configuration: the running slots and, in a split machine, the ports of the slots with a pending
+/// load.
+fn put_moves(out: &mut Vec<u8>, core: &Core) -> Result<(), AllocError>
+    ensures { OnOk result (out.new.items ≡ out.old.items ++ moves_in core.now.split (slots_of core.now)) }
 {
-    if split {
-        put_loaded(out, slots)
-    } else {
-        Ok(())
+    put_running(out, core)?;
+    if core.split() {
+        put_loaded(out, core)?;
     }
-}
-
-/// The moves of a configuration: the running slots and, in a split machine, the ports of the slots with a pending load.
-fn moves_of(alloc: Global, split: bool, slots: &[Slot]) -> Result<Vec<u8>, AllocError>
-    requires { AllByRecursion (λ (s : SlotValue). s.number < 64) slots.now }
-    ensures { IfOk result (λ items. items.items ≡ moves_in split slots.now) }
-{
-    let mut items = Vec::new(alloc);
-    put_running(&mut items, slots)?;
-    put_ports(&mut items, split, slots)?;
-    Ok(items)
+    Ok(())
 }
 
 // 2. The search.
 
-/// A configuration whose moves are made: its index, its parts and its moves.
-#[derive(Drop)]
-struct Node {
-    at: usize,
-    parts: Parts,
-    moves: Vec<u8>,
+/// A move that was made: what it did, and the group of its slot.
+#[derive(Clone, Copy)]
+pub(crate) struct Made {
+    pub(crate) step: Step,
+    pub(crate) group: u8,
 }
 
-/// What a search has: the groups, the machine, what was found and met, and room for the numbers of a configuration.
+/// What a search has: the groups, the machine and its configurations, how they were found, and what was met.
 #[derive(Drop)]
 pub(crate) struct Search {
     pub(crate) groups: Vec<u8>,
-    bench: Bench,
+    pub(crate) configs: Configs,
     pub(crate) found: Found,
     pub(crate) findings: Findings,
-    numbers: Vec<u64>,
     /// Where the moves of each configuration lead, as long as there was room for each configuration that was met.
     pub(crate) graph: Graph,
-    /// Where those of the configuration lead whose moves are made.
+    /// The moves of the configuration whose moves are made.
+    moves: Vec<u8>,
+    /// Where those that were made lead.
     children: Vec<u32>,
+    /// The most configurations that are kept.
+    limit: usize,
     /// Whether there was room for each configuration that was met.
     pub(crate) all: bool,
 }
@@ -147,38 +131,43 @@ pub fn explore(alloc: Global, img: &Image, states: u32) -> Result<Explored, NoMe
     requires few { states ≤ state_limit }
     ensures { IfOk result (λ e. Finds img.now states e) }
 {
-    let bench = Bench::new(alloc, img)?;
-    let mut search = Search::new(alloc, img, states, bench)?;
+    let mut search = Search::new(alloc, img, states)?;
     search.run(alloc, img)?;
     search.note_endless(alloc, img)?;
     Ok(
-        search
-            .findings
-            .explored(alloc, img, &search.groups, &search.found, search.all)?,
+        search.findings.explored(
+            alloc,
+            img,
+            &search.groups,
+            &search.found,
+            &mut search.configs,
+            search.all,
+        )?,
     )
 }
 
 impl Search {
     /// The search that has found the configuration of the image's start.
-    fn new(alloc: Global, img: &Image, states: u32, bench: Bench) -> Result<Search, AllocError>
+    fn new(alloc: Global, img: &Image, states: u32) -> Result<Search, NoMemory>
         requires some { 1 ≤ states }
         requires few { states ≤ state_limit }
-        requires at { IsAtConfiguration img.now [] bench }
         ensures before { IfOk result (λ s. IsBefore img.now s 0) }
-        ensures limit { IfOk result (λ s. s.found.limit ≡ states) }
+        ensures limit { IfOk result (λ s. s.limit ≡ states) }
     {
         let groups = list_groups(alloc, img.slots())?;
-        let mut numbers = Vec::new(alloc);
-        bench.put_numbers(alloc, img, &groups, &mut numbers)?;
-        let found = Found::new(alloc, states as usize, &numbers)?;
+        let configs = Configs::new(alloc, img)?;
+        let found = Found::new(alloc);
+        let findings = Findings::new(alloc)?;
+        let graph = Graph::new(alloc);
         Ok(Search {
             groups,
-            bench,
+            configs,
             found,
-            findings: Findings::new(alloc)?,
-            numbers,
-            graph: Graph::new(alloc),
+            findings,
+            graph,
+            moves: Vec::new(alloc),
             children: Vec::new(alloc),
+            limit: states as usize,
             all: true,
         })
     }
@@ -186,9 +175,8 @@ impl Search {
     /// Goes through the configurations in the order in which they are found.
     fn run(&mut self, alloc: Global, img: &Image) -> Result<(), AllocError>
         requires { IsBefore img.now self.old 0 }
-        ensures come { OnOk result (HasCome img.now self.new (explored_turns img.now self.new.found.list) []
-            self.new.found.list) }
-        ensures limit { OnOk result (self.new.found.limit ≡ self.old.found.limit) }
+        ensures come { OnOk result (HasCome img.now self.new (explored_turns img.now self.new.found) [] self.new.found) }
+        ensures limit { OnOk result (self.new.limit ≡ self.old.limit) }
     {
         let mut at = 0;
         while at < self.found.len() {
@@ -201,24 +189,55 @@ impl Search {
     /// Makes each move from a configuration, and notes the configuration if it is final.
     fn expand(&mut self, alloc: Global, img: &Image, at: usize) -> Result<(), AllocError>
         requires before { IsBefore img.now self.old at }
-        requires inside { at < length self.old.found.list }
+        requires inside { at < length self.old.found }
         ensures before { OnOk result (IsBefore img.now self.new (at + 1)) }
-        ensures inside { OnOk result (at < length self.new.found.list) }
-        ensures limit { OnOk result (self.new.found.limit ≡ self.old.found.limit) }
+        ensures inside { OnOk result (at < length self.new.found) }
+        ensures limit { OnOk result (self.new.limit ≡ self.old.limit) }
     {
-        let node = self.node(alloc, img, at)?;
+        self.list_moves(img, at)?;
+        let stay = self.make_all(img, at)?;
+        self.note_if_final(alloc, img, at, stay)?;
+        self.keep_children()
+    }
+
+    /// Lists the moves from a configuration. None of them is made yet.
+    fn list_moves(&mut self, img: &Image, at: usize) -> Result<(), AllocError>
+        requires before { IsBefore img.now self.old at }
+        requires inside { at < length self.old.found }
+        ensures within { OnOk result (IsWithin img.now self.new at 0) }
+        ensures limit { OnOk result (self.new.limit ≡ self.old.limit) }
+    {
+        self.configs.put(at)?;
+        self.moves.clear();
+        put_moves(&mut self.moves, self.configs.core())?;
         self.children.clear();
-        let stay = self.make_all(alloc, img, &node)?;
-        self.keep_children()?;
+        Ok(())
+    }
+
+    /// Notes a configuration if it is final: if each of its moves leads back to it.
+    fn note_if_final(
+        &mut self,
+        alloc: Global,
+        img: &Image,
+        at: usize,
+        stay: bool,
+    ) -> Result<(), AllocError>
+        requires within { IsWithin img.now self.old at (length self.old.moves.items) }
+        requires stay { AllStay stay img.now (schedule_at self.old at) self.old.moves.items }
+        ensures noted { OnOk result (IsNotedIfFinal img.now self.old self.new at) }
+        ensures rest { self.new ≡ record self.old { configs = self.new.configs; findings = self.new.findings } }
+    {
         if !stay {
             return Ok(());
         }
+        self.configs.put(at)?;
         let end = End {
             at: at as u32,
-            ending: final_ending(&node.moves),
+            ending: final_ending(&self.moves),
             busy: 0,
         };
-        self.findings.note_end(alloc, end, &node.parts)
+        self.findings
+            .note_end(alloc, end, self.configs.core(), &self.groups)
     }
 
     /// Keeps where the moves of a configuration lead, as long as there was room for each configuration that was met.
@@ -233,59 +252,34 @@ impl Search {
         self.graph.push(&self.children)
     }
 
-    /// The configuration of an index.
-    fn node(&self, alloc: Global, img: &Image, at: usize) -> Result<Node, AllocError>
-        requires before { IsBefore img.now self.now at }
-        requires inside { at < length self.now.found.list }
-        ensures at { IfOk result (λ node. node.at ≡ at) }
-        ensures node { IfOk result (λ node. IsNode img.now self.now node) }
-    {
-        let parts = take_parts(alloc, img, &self.groups, self.found.numbers(at))?;
-        let moves = moves_of(alloc, img.split(), &parts.slots)?;
-        Ok(Node { at, parts, moves })
-    }
-
     /// Makes each move from a configuration, and says whether each leads back to it.
-    fn make_all(&mut self, alloc: Global, img: &Image, node: &Node) -> Result<bool, AllocError>
-        requires { IsWithin img.now self.old node.now 0 }
-        ensures within { OnOk result (IsWithin img.now self.new node.now (length node.now.moves.items)) }
-        ensures schedule { OnOk result (node_schedule self.new node.now ≡ node_schedule self.old node.now) }
-        ensures limit { OnOk result (self.new.found.limit ≡ self.old.found.limit) }
-        ensures stay { IfOk result (λ stay. AllStay stay img.now (node_schedule self.old node.now)
-            node.now.moves.items) }
+    fn make_all(&mut self, img: &Image, at: usize) -> Result<bool, AllocError>
+        requires { IsWithin img.now self.old at 0 }
+        ensures within { OnOk result (IsWithin img.now self.new at (length self.new.moves.items)) }
+        ensures limit { OnOk result (self.new.limit ≡ self.old.limit) }
+        ensures stay { IfOk result (λ stay. AllStay stay img.now (schedule_at self.new at) self.new.moves.items) }
     {
         let mut stay = true;
-        for k in 0..node.moves.len() {
-            let stays = self.make(alloc, img, node, k)?;
+        for k in 0..self.moves.len() {
+            let stays = self.make(img, at, k)?;
             stay = stay & stays;
         }
         Ok(stay)
     }
 
     /// Makes a move from a configuration, and says whether it leads back to it.
-    fn make(
-        &mut self,
-        alloc: Global,
-        img: &Image,
-        node: &Node,
-        k: usize,
-    ) -> Result<bool, AllocError>
-        requires within { IsWithin img.now self.old node.now k }
-        requires inside { k < length node.now.moves.items }
-        ensures within { OnOk result (IsWithin img.now self.new node.now (k + 1)) }
-        ensures schedule { OnOk result (node_schedule self.new node.now ≡ node_schedule self.old node.now) }
-        ensures limit { OnOk result (self.new.found.limit ≡ self.old.found.limit) }
-        ensures stays { IfOk result (λ stays. StaysBy stays img.now (node_schedule self.old node.now)
-            (slice_index_or node.now.moves.items k 0)) }
+    fn make(&mut self, img: &Image, at: usize, k: usize) -> Result<bool, AllocError>
+        requires within { IsWithin img.now self.old at k }
+        requires inside { k < length self.old.moves.items }
+        ensures makes { IfOk result (λ stays. Makes img.now stays self.old self.new at k) }
     {
         let origin = Origin {
-            from: node.at as u32,
-            item: node.moves[k],
+            from: at as u32,
+            item: self.moves[k],
         };
-        self.bench.put(alloc, img, &node.parts)?;
-        let Made { step, group } = self.bench.turn(alloc, img, origin.item)?;
-        self.findings.note(&Made { step, group }, origin)?;
-        match self.meet(alloc, img, origin)? {
+        let made = self.turn(img, at, origin.item)?;
+        self.findings.note(&made, origin)?;
+        match self.meet(img, origin)? {
             Some(child) => {
                 self.children.push(child)?;
                 Ok(child == origin.from)
@@ -297,25 +291,44 @@ impl Search {
         }
     }
 
-    /// The index of the configuration of the machine, to which a move led. If it is new it is added, if there is room.
-    fn meet(
-        &mut self,
-        alloc: Global,
-        img: &Image,
-        origin: Origin,
-    ) -> Result<Option<u32>, AllocError>
-        requires groups { self.old.groups.items ≡ groups_of (start img.now).core }
-        requires some { IsAtSomeConfiguration img.now self.old.bench }
-        requires from { origin.from < length self.old.found.list }
-        ensures { IfOk result (λ child. (t : List ℕ) → IsAtConfiguration img.now t self.old.bench
-            → Met (kept img.now (run (start img.now) t)) origin child self.old self.new) }
+    /// Makes the turn of an item from a configuration.
+    fn turn(&mut self, img: &Image, at: usize, item: u8) -> Result<Made, AllocError>
+        requires kept { HasKept img.now self.old.found self.old.configs }
+        requires inside { at < length self.old.found }
+        ensures at { OnOk result (IsAt img.now self.old.found (schedule_at self.old at ++ item ∷ []) self.new.configs) }
+        ensures made { IfOk result (λ made. IsMade img.now (schedule_at self.old at) item made) }
+        ensures rest { self.new ≡ record self.old { configs = self.new.configs } }
     {
-        self.numbers.clear();
-        self.bench
-            .put_numbers(alloc, img, &self.groups, &mut self.numbers)?;
-        match self.found.look(alloc, &self.numbers, origin)? {
+        self.configs.put(at)?;
+        let step = self.configs.turn(item)?;
+        let group = self.group_of(step.slot);
+        Ok(Made { step, group })
+    }
+
+    /// The group of the slot of a number; 0 if there is none.
+    fn group_of(&self, number: u8) -> u8
+        ensures { (i : ImageValue) (v : ConfigsValue) → Stands i v self.now.configs
+            → result ≡ group_in_option (slot_at v.machine.core number) }
+    {
+        match self.configs.core().slot(number) {
+            Some(slot) => slot.group,
+            None => 0,
+        }
+    }
+
+    /// The index of the configuration of the machine, to which a move led. If it is new it is added, if there is room.
+    fn meet(&mut self, img: &Image, origin: Origin) -> Result<Option<u32>, AllocError>
+        requires at { IsAt img.now self.old.found (led_by self.old.found origin) self.old.configs }
+        requires from { origin.from < length self.old.found }
+        requires few { self.old.limit ≤ 2 ^ 31 }
+        ensures { IfOk result (λ child. Met img.now origin child self.old self.new) }
+    {
+        match self.configs.keep(self.limit)? {
             Looked::Known(at) => Ok(Some(at)),
-            Looked::New => Ok(Some(self.found.len() as u32 - 1)),
+            Looked::New => {
+                self.found.push(origin)?;
+                Ok(Some(self.found.len() as u32 - 1))
+            }
             Looked::Full => Ok(None),
         }
     }

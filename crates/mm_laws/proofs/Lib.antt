@@ -25,3 +25,4 @@ pub mod CellTexts
 pub mod WholeRuns
 pub mod VersionTurns
 pub mod VersionRuns
+pub mod Left

@@ -9,3 +9,4 @@ pub mod Runs
 pub mod CellLines
 pub mod Causes
 pub mod Migration
+pub mod Frames

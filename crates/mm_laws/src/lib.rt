@@ -7,6 +7,7 @@
 pub mod causes;
 pub mod cell_lines;
 pub mod counts;
+pub mod frames;
 pub mod granted;
 pub mod grants;
 pub mod isolated;

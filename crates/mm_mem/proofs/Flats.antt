@@ -49,7 +49,13 @@ no_cell m w h = elim (word_or_none w) [
   | inr odd ↦ cell_at-unaligned m w odd
 ]
 
--- a search that ends in a gap says that the word has no cell
+-- a search that ends in a gap says that the word's page is not mapped, and that the word has no cell
+pub unmapped_unless : (m : Memory) (w : ℕ) (r : Result ℕ ℕ) (o : Option ℕ) → o ≡ result_ok r → IfErr r (IsGap (page_of w) m.pages) → IfNone o (page_at m (page_of w) ≡ None)
+unmapped_unless m w (Ok i) None e gap = cc
+unmapped_unless m w (Ok i) (Some j) e gap = tt
+unmapped_unless m w (Err i) None e gap = absent_in_gap (page_of w) m.pages i gap
+unmapped_unless m w (Err i) (Some j) e gap = tt
+
 pub absent_unless : (m : Memory) (w : ℕ) (r : Result ℕ ℕ) (o : Option ℕ) → o ≡ result_ok r → IfErr r (IsGap (page_of w) m.pages) → IfNone o (cell_at m w ≡ None)
 absent_unless m w (Ok i) None e gap = cc
 absent_unless m w (Ok i) (Some j) e gap = tt

@@ -94,7 +94,7 @@ impl Model for FlatPages {
 impl FlatPages {
     ghost use Rattle.mm_mem.specs.Places.{IsAt};
     ghost use Rattle.mm_mem.specs.Answers.{after_map, after_unmap};
-    ghost use Rattle.mm_model.specs.Memory.{IsPaged, is_mapped, cell_at, put_cell, can_map};
+    ghost use Rattle.mm_model.specs.Memory.{IsPaged, page_at, is_mapped, cell_at, put_cell, can_map};
 
     /// The memory of these pages. All its frames are allocated here.
     pub(crate) fn new(alloc: Global, pages: &[Page], frames: u32) -> Result<FlatPages, NoMemory>
@@ -115,6 +115,7 @@ impl FlatPages {
     /// The index of a word's page among the mapped pages; `None` if it is not mapped.
     pub(crate) fn find(&self, word: u64) -> Option<usize>
         ensures found { IfSome result (IsAt (page_of word) self.now.pages) }
+        ensures unmapped { IfNone result (page_at self.now (page_of word) ≡ None) }
         ensures absent { IfNone result (cell_at self.now word ≡ None) }
     {
         search(&self.pages, page_of(word)).ok()

@@ -150,3 +150,26 @@ impl Reset for PlainMem {
         self.uses = 0;
     }
 }
+
+impl PlainMem {
+    ghost use Rattle.std.specs.Prelude.{◌%◌};
+    ghost use Rattle.mm_model.specs.Memory.{put_cell};
+
+    /// Makes this the cell of a word, and counts no access. An unmapped word has none, and nothing changes.
+    pub fn put(&mut self, word: u64, cell: Cell)
+        ensures memory { self.new.memory ≡ put_cell self.old.memory word cell }
+        ensures uses { self.new.uses ≡ self.old.uses }
+    {
+        if let Some(i) = self.flat.find(word) {
+            self.flat.put(i, word, cell);
+        }
+    }
+
+    /// Begins the count of accesses anew.
+    pub fn recount(&mut self)
+        ensures memory { self.new.memory ≡ self.old.memory }
+        ensures uses { self.new.uses ≡ 0 }
+    {
+        self.uses = 0;
+    }
+}

@@ -16,3 +16,4 @@ pub mod Assigned
 pub mod Rows
 pub mod Writes
 pub mod Moves
+pub mod Revised

@@ -7,3 +7,4 @@ pub mod Parts
 pub mod Tables
 pub mod Named
 pub mod Told
+pub mod Revisions

@@ -1,6 +1,6 @@
 //! The output of a group.
 
-ghost use Rattle.std.specs.Prelude.{◌≡◌, ◌<◌, ◌≤◌, ◌++◌, [], ◌∷◌, length, IfOk};
+ghost use Rattle.std.specs.Prelude.{◌≡◌, ◌<◌, ◌≤◌, ◌+◌, ◌++◌, [], ◌∷◌, length, take, IfOk};
 
 use mm_model::OUTPUT_LIMIT;
 use mm_word::NoMemory;
@@ -60,6 +60,15 @@ impl GroupOutput {
         ensures { self.new ≡ bytes.now }
     {
         self.bytes.clear();
+        self.bytes.extend_from_slice(bytes).unwrap();
+    }
+
+    /// Appends bytes to the first ones of the output.
+    pub(crate) fn extend(&mut self, kept: usize, bytes: &[u8])
+        requires { kept + length bytes.now ≤ 65536 }
+        ensures { self.new ≡ take kept self.old ++ bytes.now }
+    {
+        self.bytes.truncate(kept);
         self.bytes.extend_from_slice(bytes).unwrap();
     }
 }

@@ -43,6 +43,7 @@ mod watch;
 
 pub use mm_model::{Event, Pending, Slot, SlotState, Step, Tick};
 pub use output::Output;
+pub use restore::Revision;
 pub use state::{Core, turn, turn_watched};
 pub use told::{Beside, Held, Kept, Registers, Was, event_of};
 pub use watch::{LastStep, LastTurn, NoWatch, Watch};

@@ -1,6 +1,6 @@
 //! The queue of events of a slot.
 
-ghost use Rattle.std.specs.Prelude.{◌≡◌, ◌<◌, ◌++◌, [], ◌∷◌, drop, length};
+ghost use Rattle.std.specs.Prelude.{◌≡◌, ◌<◌, ◌≤◌, ◌++◌, [], ◌∷◌, drop, length};
 
 use arrayvec::ArrayVec;
 use mm_model::Event;
@@ -69,6 +69,15 @@ impl Queue {
         ensures { self.new ≡ drop 1 self.old }
     {
         self.events.remove(0);
+    }
+
+    /// Makes these events the queue.
+    pub(crate) fn assign(&mut self, events: &[Event])
+        requires { length events.now ≤ 64 }
+        ensures { self.new ≡ events.now }
+    {
+        self.events.clear();
+        self.events.try_extend_from_slice(events).unwrap();
     }
 
     /// Removes all events.

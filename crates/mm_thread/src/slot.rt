@@ -141,6 +141,23 @@ pub(crate) fn take_event(slot: &mut Slot, rd: EvtReg, event: &Event)
     advance(slot);
 }
 
+/// Makes the slot, but for its number, group and handler, what another is.
+pub(crate) fn assign(slot: &mut Slot, other: &Slot)
+    ensures { slot.new ≡ record other.now
+        { number = slot.old.number; group = slot.old.group; handler = slot.old.handler } }
+{
+    slot.regs.copy_from_slice(&other.regs);
+    slot.ip = other.ip;
+    slot.past = other.past;
+    slot.turns = other.turns;
+    slot.state = other.state;
+    slot.empty = other.empty;
+    slot.pending.clear();
+    slot.pending
+        .try_extend_from_slice(other.pending.as_slice())
+        .unwrap();
+}
+
 /// Changes the slot as its handler resumes it.
 #[tactic(auto, unfolding(mm_model::specs::Effect::advanced, mm_model::specs::Effect::runs_past))]
 pub(crate) fn resume(slot: &mut Slot, how: How)

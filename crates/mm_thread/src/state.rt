@@ -1,7 +1,7 @@
 //! A core: the slots, events and outputs of a machine.
 
 ghost use Rattle.std.specs.Prelude.{◌≡◌, ℕ, ◌+◌, ◌<◌, ◌≤◌, ◌^◌, ◌⊎◌, false, [], length, map, replicate, IfOk};
-ghost use Rattle.std.specs.Prelude.{IsSomeAnd, slice_get, ◌↔◌};
+ghost use Rattle.std.specs.Prelude.{IsSomeAnd, IfSome, IfNone, None, slice_get, ◌↔◌};
 ghost use Rattle.std.specs.Int.{IsBitSet};
 ghost use Rattle.std.specs.Option.{option_copied};
 ghost use Rattle.mm_model.specs.declared.slot.SlotState.TheVariants.{Running};
@@ -10,21 +10,25 @@ ghost use Rattle.std.specs.List.Sorted.{IsStrictlyIncreasing};
 ghost use Rattle.mm_model.specs.Spelling.{numbers_of, IsFresh};
 ghost use Rattle.mm_model.specs.Slot.{Slot as SlotValue};
 ghost use Rattle.mm_model.specs.State.{slot_at, queue_at, output_of};
-ghost use Rattle.mm_model.specs.Fits.{slots_of, IsCore, IsOfVersion};
+ghost use Rattle.mm_model.specs.Fits.{slots_of, identity_of, IsCore, IsOfVersion};
+ghost use Rattle.mm_model.specs.Flags.{flags};
 ghost use Rattle.mm_model.specs.Groups.{has_group};
 ghost use Rattle.mm_model.specs.Uses.{accesses, TakesUses};
 ghost use Rattle.mm_model.specs.Turn.{turn as turn_of};
 ghost use Rattle.mm_model.specs.Outcomes.{IsIdle, Delivers, Blocks, Faults, Completes};
 ghost use Rattle.mm_word.specs.declared.cause.Cause.{Cause};
 ghost use Rattle.mm_model.specs.declared.step.Tick.{Tick};
-ghost use Rattle.mm_thread.specs.SlotIndices.{row_alone};
+ghost use Rattle.mm_thread.specs.SlotIndices.{row_alone, slot_in, with_slot};
+ghost use Rattle.mm_thread.specs.Revisions.{revised, queues_in, outputs_in};
 ghost use Rattle.mm_thread.specs.StepAccesses.{accesses_in, accesses_shown};
 ghost use Rattle.mm_thread.specs.Told.{told_of, shown};
 
 use crate::build::{no_outputs, rows_of};
 use crate::item::take_item;
 use crate::output::Output;
-use crate::restore::{put_events, put_outputs, put_slots};
+use crate::restore::{
+    Revision, extend_outputs, put_changed, put_events, put_outputs, put_queues, put_slots,
+};
 use crate::tables::Tables;
 use crate::watch::{LastStep, Watch};
 use mm_mem::Memory;
@@ -133,6 +137,32 @@ impl Core {
         put_outputs(&mut self.tables, outputs);
     }
 
+    /// Puts other slots, queues and outputs in place of some. The slots are those at the indices that are set in a mask, the
+    /// first in the lowest bit.
+    pub fn revise(&mut self, changed: u64, slots: &[Slot], revision: &Revision)
+        requires whole { IsCore (revised self.old (flags (length slots.now) changed) slots.now (queues_in revision.now)
+            (outputs_in revision.now)) }
+        requires same { map identity_of slots.now ≡ map identity_of (slots_of self.old) }
+        requires few { length slots.now ≤ 64 }
+        requires queues { AllByRecursion (λ x. (x.0 < length slots.now) × (length x.1 ≤ 64)) (queues_in revision.now) }
+        requires outputs { AllByRecursion (λ x. (x.group < 64) × (x.kept + length x.bytes ≤ 65536))
+            (outputs_in revision.now) }
+        ensures { self.new ≡ revised self.old (flags (length slots.now) changed) slots.now (queues_in revision.now)
+            (outputs_in revision.now) }
+    {
+        put_changed(&mut self.tables, changed, slots);
+        put_queues(&mut self.tables, &revision.queues);
+        extend_outputs(&mut self.tables, &revision.outputs);
+    }
+
+    /// Makes the count of turns of the slot at an index 0.
+    pub fn uncount(&mut self, at: usize)
+        requires { at < length (slots_of self.old) }
+        ensures { self.new ≡ with_slot self.old at (record (slot_in self.old at) { turns = 0 }) }
+    {
+        self.tables.uncount(at);
+    }
+
     /// Makes the core that of a split machine, or of one that is not split. No load may be pending.
     pub fn set_split(&mut self, on: bool)
         requires { AllByRecursion (λ (s : SlotValue). s.pending ≡ []) (slots_of self.old) }
@@ -159,6 +189,15 @@ impl Core {
             Some(slot_index) => Some(self.tables.slot(slot_index)),
             None => None,
         }
+    }
+
+    /// The index of the slot of a number, if there is one.
+    pub fn place(&self, n: u8) -> Option<usize>
+        ensures within { IfSome result (λ at. at < length (slots_of self.now)) }
+        ensures number { IfSome result (λ at. (slot_in self.now at).number ≡ n) }
+        ensures missing { IfNone result (slot_at self.now n ≡ None) }
+    {
+        self.tables.find_slot(u64::from(n))
     }
 
     /// The set of running slots: bit n is set exactly if slot n runs.
@@ -190,6 +229,13 @@ impl Core {
         } else {
             &[]
         }
+    }
+
+    /// Says, for proofs, what a core always is. The call does nothing.
+    pub fn known(&self)
+        ensures { IsCore self.now }
+    {
+        let _count = self.tables.len();
     }
 
     /// The count of slots.

@@ -1,7 +1,7 @@
 //! The tables of a core, and the changes to them.
 
-ghost use Rattle.std.specs.Prelude.{◌≡◌, ◌↔◌, ℕ, IsSomeAnd, IfSome, IfNone, ◌<◌, ◌≤◌, ◌^◌, ◌++◌, ◌&&◌, [], ◌∷◌, nat_lt};
-ghost use Rattle.std.specs.Prelude.{None, Some, Bool, true, false, length, drop, slice_set};
+ghost use Rattle.std.specs.Prelude.{◌≡◌, ◌↔◌, ℕ, IsSomeAnd, IfSome, IfNone, ◌+◌, ◌<◌, ◌≤◌, ◌^◌, ◌++◌, ◌&&◌, [], ◌∷◌, nat_lt};
+ghost use Rattle.std.specs.Prelude.{None, Some, Bool, true, false, length, drop, take, slice_set};
 ghost use Rattle.std.specs.List.{AllByRecursion};
 ghost use Rattle.std.specs.Int.{IsBitSet};
 ghost use Rattle.mm_word.specs.declared.word.Word.TheVariants.{Int};
@@ -10,6 +10,7 @@ ghost use Rattle.mm_model.specs.declared.slot.SlotState.TheVariants.{Running, Ta
 ghost use Rattle.mm_model.specs.Slot.{is_empty};
 ghost use Rattle.mm_model.specs.State.{slot_at, output_of, put_output};
 ghost use Rattle.mm_model.specs.Image.{output_limit};
+ghost use Rattle.mm_model.specs.Fits.{identity_of};
 ghost use Rattle.mm_model.specs.Effect.{effect, plain, delivered, resumed_by};
 ghost use Rattle.mm_model.specs.Effect.Reply.{Fine};
 ghost use Rattle.mm_model.specs.Turn.{slot_after, stood, is_running};
@@ -24,7 +25,7 @@ use crate::group_output::GroupOutput;
 use crate::local_ops::Entered;
 use crate::row::ThreadRow;
 use crate::run_mask::{keep_running, noted, ran_on, runners_of};
-use crate::slot::{advance, deliver, issue, resume, set_register, sets, stand, take_event};
+use crate::slot::{advance, assign, deliver, issue, resume, set_register, sets, stand, take_event};
 use mm_isa::{EvtReg, How, Instr, Reg};
 use mm_model::{Event, Slot, SlotState, output_limit};
 use mm_word::Word;
@@ -381,5 +382,47 @@ impl Tables {
     {
         let output = &mut self.outputs[group as usize];
         output.assign(bytes);
+    }
+
+    /// Puts another slot of the same number at an index. The queue stays.
+    pub(crate) fn put_slot(&mut self, at: usize, slot: &Slot)
+        requires at { at < length self.old.rows }
+        requires same { identity_of slot.now ≡ identity_of (slot_in self.old at) }
+        ensures { self.new ≡ with_slot self.old at slot.now }
+    {
+        let row = &mut self.rows[at];
+        assign(&mut row.slot, slot);
+        self.runners = noted(self.runners, &row.slot);
+    }
+
+    /// Makes these events the queue at an index.
+    pub(crate) fn put_queue(&mut self, at: usize, events: &[Event])
+        requires at { at < length self.old.rows }
+        requires room { length events.now ≤ 64 }
+        ensures { self.new ≡ with_queue_in self.old at events.now }
+    {
+        let row = &mut self.rows[at];
+        row.queue.assign(events);
+    }
+
+    /// Appends bytes to the first ones of a group's output.
+    #[tactic(auto, unfolding(mm_model::specs::State::output_of, mm_model::specs::State::put_output))]
+    pub(crate) fn extend_output(&mut self, group: u8, kept: usize, bytes: &[u8])
+        requires group { group < length self.old.outputs }
+        requires room { kept + length bytes.now ≤ 65536 }
+        ensures { self.new ≡ put_output self.old group (take kept (output_of self.old group) ++ bytes.now) }
+    {
+        let output = &mut self.outputs[group as usize];
+        output.extend(kept, bytes);
+    }
+
+    /// Makes the count of turns of a slot 0.
+    pub(crate) fn uncount(&mut self, at: usize)
+        requires { at < length self.old.rows }
+        ensures { self.new ≡ with_slot self.old at (record (slot_in self.old at) { turns = 0 }) }
+    {
+        let row = &mut self.rows[at];
+        let slot = &mut row.slot;
+        slot.turns = 0;
     }
 }

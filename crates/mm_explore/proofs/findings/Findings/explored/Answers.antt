@@ -10,7 +10,7 @@ use Rattle.mm_explore.proofs.findings.Findings.explored.Goals as goal
 pub list_faults-requires : goal.list_faults-requires
 list_faults-requires c = λ key.
     let i = c.args.img.now in
-    let list = c.args.found.now.list in
+    let list = c.args.found.now in
     origin_inside list (first_in i (explored_turns i list) key.0 key.1) (get order c.args.self.now.faults key) (c.requires.noted.faults key.0 key.1)
 
 pub put_outcomes-requires-clause-ends : goal.put_outcomes-requires-clause-ends
@@ -19,7 +19,7 @@ put_outcomes-requires-clause-ends c = (c.requires.ends.0, firsts c.requires.ends
 pub returns : goal.returns
 returns c = λ limit ends explored is_all is_more noted are.
     let i = c.args.img.now in
-    let list = c.args.found.now.list in
+    let list = c.args.found.now in
     let f = c.args.self.now in
     let words = c.requires.noted in
     let (gs, is, all_zip) = c.in_ok-put_groups.ensures in
@@ -28,7 +28,7 @@ returns c = λ limit ends explored is_all is_more noted are.
     record {
       list = list;
       explored = explored;
-      count = c.len.ensures.count;
+      count = c.len.ensures;
       all = is_all;
       more = is_more;
       groups = subst (AllZip (IsGroupOf i list) (groups_of (start i).core)) (sym found_are) (subst (λ l. AllZip (IsGroupOf i list) l gs) c.requires.groups groups);

@@ -1,4 +1,4 @@
-use Rattle.mm_explore.proofs.{Putting.more_ok, Notes.noted_next}
+use Rattle.mm_explore.proofs.{Notes.more_ok, Notes.noted_next}
 use Rattle.mm_explore.proofs.findings.Findings.note.Goals as goal
 
 pub returns-clause-noted : goal.returns-clause-noted

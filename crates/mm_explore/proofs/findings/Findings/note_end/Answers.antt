@@ -1,5 +1,6 @@
 use Rattle.mm_explore.specs.Noting.{outcome_held}
-use Rattle.mm_explore.proofs.{HeldEnds.held_once, Notes.{both_ok, ended_next, room_is}, Putting.more_ok}
+use Rattle.std.proofs.Common.{◌∙◌, sym}
+use Rattle.mm_explore.proofs.Notes.{both_ok, more_ok, ended_next, room_is}
 use Rattle.mm_explore.proofs.findings.Findings.note_end.Goals as goal
 
 pub count_end-requires : goal.count_end-requires
@@ -13,7 +14,7 @@ returns-clause-noted c = more_ok c.count_end.result (λ entries i list done h. r
 pub returns-clause-ends : goal.returns-clause-ends
 returns-clause-ends c =
     both_ok c.count_end.result
-    (λ entries unique i list ends t img h at parts.
-    ended_next i list ends (record { schedule = t; outcome = outcome_held c.args.end c.args.parts.now }) c.args.self.now (record c.args.self.now { ends = c.count_end.new.ends })
-    c.args.end c.in_ok-key.key h at c.in_ok-key.ensures (λ p there. held_once i t c.args.end p c.args.parts.now there parts) entries unique)
+    (λ entries unique i list ends t h at is_core is_groups.
+    ended_next i list ends (record { schedule = t; outcome = outcome_held c.args.end c.args.core.now c.args.groups.now }) c.args.self.now (record c.args.self.now { ends = c.count_end.new.ends })
+    c.args.end c.in_ok-key.key h at c.in_ok-key.ensures (λ j. outcome_held c.args.end (sym is_core j) (sym is_groups j)) entries unique)
     c.count_end.ensures.entries c.count_end.ensures.unique

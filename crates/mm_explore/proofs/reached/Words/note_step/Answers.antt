@@ -1,6 +1,6 @@
 use Rattle.std.{proofs.Common.{◌++◌, subst}, specs.{List.flat_map, Option.option_to_list}}
 use Rattle.mm_explore.specs.{Findings.any_kind, Words.{AreKept, passed_words}}
-use Rattle.mm_explore.proofs.{Putting.more_ok, WordKeys.step_joined}
+use Rattle.mm_explore.proofs.{Notes.more_ok, WordKeys.step_joined}
 use Rattle.mm_model.specs.Counted.{writes}
 use Rattle.mm_explore.proofs.reached.Words.note_step.Goals as goal
 

@@ -12,7 +12,7 @@ pub closed_sets-requires-clause-few : goal.closed_sets-requires-clause-few
 closed_sets-requires-clause-few c = children_few c.args.img.now c.args.self.now c.requires.come c.requires.all
 
 pub loop-at-init : goal.loop-at-init
-loop-at-init c = none_seen c.args.img.now c.args.self.now.found.list c.new-busy.result.entries c.new-busy.ensures.empty
+loop-at-init c = none_seen c.args.img.now c.args.self.now.found c.new-busy.result.entries c.new-busy.ensures.empty
 
 pub returns : goal.returns
 returns c =
@@ -21,5 +21,5 @@ returns c =
     let all = (searched i c.requires.come.image s c.requires.come).1 c.requires.all in
     let low = c.loop-at.auto.at-end in
     let high = c.loop-at-test.false in
-    let end = c.len-at-end.ensures.count in
-    sets_busy i s.found.list all c.loop-at.at (omega (arith, low, high, end)) c.loop-at.busy.entries c.loop-at.invariant
+    let end = c.len-at-end.ensures in
+    sets_busy i s.found all c.loop-at.at (omega (arith, low, high, end)) c.loop-at.busy.entries c.loop-at.invariant

@@ -1,11 +1,11 @@
 use Rattle.std.proofs.Common.{◌≡◌, take}
-use Rattle.mm_explore.specs.Searching.{IsWithin, node_schedule, AllStay}
+use Rattle.mm_explore.specs.Searching.{IsWithin, schedule_at, AllStay}
 use Rattle.mm_explore.proofs.search.Search.make_all.Given as goal
 
 abbrev pub invariant-loop-k : goal.invariant-loop-k
 invariant-loop-k l = record {
-  within : IsWithin l.img l.self l.node l.k;
-  schedule : node_schedule l.self l.node ≡ node_schedule l.fn.self l.node;
-  limit : l.self.found.limit ≡ l.fn.self.found.limit;
-  stay : AllStay l.stay l.img (node_schedule l.fn.self l.node) (take l.k l.node.moves.items);
+  within : IsWithin l.img l.self l.at l.k;
+  moves : l.self.moves ≡ l.fn.self.moves;
+  limit : l.self.limit ≡ l.fn.self.limit;
+  stay : AllStay l.stay l.img (schedule_at l.self l.at) (take l.k l.self.moves.items);
 }

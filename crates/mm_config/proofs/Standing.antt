@@ -1,0 +1,239 @@
+-- A machine that is put to another configuration.
+use Rattle.std.proofs.Common.{◌≡◌, ◌⊎◌, Vec, Global, ℕ, ◌+◌, ◌<◌, ◌≤◌, ◌^◌, List, [], ◌∷◌, ◌++◌, map, length, take, Bool, false, if◌then◌else◌, slice_index_or, refl, sym, ap, ◌∙◌, subst, arith, length-append}
+use Rattle.std.proofs.lemmas.List.{length-map, length-take-le}
+use Rattle.std.specs.List.{AllByRecursion, AllZip}
+use Rattle.mm_model.specs.{declared.event.Event.Event, Slot.Slot, Flags.flags, Memory.Memory, Image.Image, State.{ThreadRow, Core, State, output_of}}
+use Rattle.mm_model.specs.{Fits.{slots_of, identity_of, IsCore}, Spelling.IsImage}
+use Rattle.mm_model.proofs.{Bytes.Bitmaps.length-flags, CoreRows.each_map, Fitted.core_of, Shortness.queue_short}
+use Rattle.mm_thread.specs.{SlotIndices.{no_slot, slot_in, queue_in}, Revisions.{Extension, queue_in_place, queues_in, outputs_in, revised}}
+use Rattle.mm_thread.proofs.{Cores.output_short, Index.queue_found, RowIndex.{apart_in, few_rows, small_numbers}}
+use Rattle.mm_config.specs.declared.configs.Configs as code
+use Rattle.mm_config.specs.declared.{store.Store.Store, names.Names.Names}
+use Rattle.mm_config.specs.{Configurations.configuration, Machines.Configs, Naming.{AreNamesOf, IsRest, IsKeptOnce}, Noting.{IsKeptStill, HasMoreCells, mapped_pages}}
+use Rattle.mm_config.specs.Keeping.{IsConfigurationOf, IsKeyOf, IsMachineAt, HasNamesOf, Stands}
+use Rattle.mm_config.specs.Reaching.{HasConfiguration, Reaches, HasPutCore, KeepsAll, HasReadSlots, HasReadQueues, HasReadOutputs, IsListed, Extends}
+use Rattle.mm_config.proofs.{Keys.key_tells, Noted.still_more, Staying.{keys_stay, names_stay, rest_stays}, Revising.{LeadsTo, revised_is}}
+
+pub config_core : (i : Image) (s : State) → IsImage i → IsConfigurationOf i s → IsCore s.core
+config_core i s img h = core_of i s img h.state.state h.state.fits h.state.kept
+
+-- 1. A machine stands if it is at a configuration, with its names, and if what was kept still is.
+
+pub stands_at : (i : Image) (v : Configs) (s : State) (old new : code.Configs) → Stands i v old → new.base ≡ old.base
+    → map identity_of new.slots.items ≡ map identity_of old.slots.items → new.depth ≡ old.depth → new.kept ≡ old.kept
+    → IsKeptStill old.store new.store → IsMachineAt i s new → HasNamesOf i s new → Stands i (record v { machine = s }) new
+stands_at i v s old new h base room depth kept still machine named = record {
+  image = h.image;
+  base = ap (λ b. b.items) base ∙ h.base;
+  room = room ∙ h.room;
+  depth = subst (λ d. d ≤ 6) (sym depth) h.depth;
+  machine = machine;
+  named = named;
+  configs = h.configs;
+  each = subst (λ d. AllZip (IsKeyOf i.slots d new.store) v.kept new.kept.keys) (sym depth)
+      (subst (λ k. AllZip (IsKeyOf i.slots old.depth new.store) v.kept k) (sym (ap (λ k. k.keys) kept))
+      (keys_stay old.store new.store still i.slots old.depth v.kept old.kept.keys h.each));
+  few = h.few;
+}
+
+-- with other room it stands as well
+pub stands_still : (i : Image) (v : Configs) (old new : code.Configs) → Stands i v old → KeepsAll old new
+    → map identity_of new.slots.items ≡ map identity_of old.slots.items → Stands i v new
+stands_still i v old new h others room = subst (Stands i v) (sym others) (record {
+  image = h.image;
+  base = h.base;
+  room = room ∙ h.room;
+  depth = h.depth;
+  machine = record { core = h.machine.core; memory = h.machine.memory; config = h.machine.config; uses = h.machine.uses; mapped = h.machine.mapped };
+  named = record { names = h.named.names; rest = h.named.rest };
+  configs = h.configs;
+  each = h.each;
+  few = h.few;
+})
+
+-- and reaches what it reached
+pub reaches_still : (wanted : Names) (old new : code.Configs) → Reaches wanted old → KeepsAll old new
+    → map identity_of new.slots.items ≡ map identity_of old.slots.items → Reaches wanted new
+reaches_still wanted old new r others room = record {
+  image = r.image;
+  at = r.at;
+  state = r.state;
+  stands = stands_still r.image r.at old new r.stands others room;
+  config = r.config;
+  names = subst (λ (c : code.Configs). AreNamesOf r.image.slots c.depth c.store r.state wanted) (sym others) r.names;
+}
+
+-- 2. Where a key leads.
+
+module _ (c : code.Configs) (key : ℕ × ℕ) (h : HasConfiguration c key) where
+  -- the machine is there already
+  pub there_already : IsKeptOnce c.store → key ≡ (c.names.slots, c.rest) → Stands h.image (record h.at { machine = h.state }) c
+  there_already once e =
+      let st = h.stands in
+      let same = key_tells h.image h.state h.at.machine c.depth c.store c.names c.rest key st.image once h.config st.machine.config st.named.names st.named.rest h.is e in
+      subst (λ (s : State). Stands h.image (record h.at { machine = s }) c) (sym same) st
+
+  pub wanted_is : (w : Names) → ((n : Names) → IsRest c.store.pairs n key.1 → w ≡ record n { slots = key.0 }) → w ≡ h.is.names
+  wanted_is w is = is h.is.names h.is.rest ∙ ap (λ x. record h.is.names { slots = x }) h.is.slots
+
+  pub reaches_it : (w : Names) → w ≡ h.is.names → Reaches w c
+  reaches_it w e = record {
+    image = h.image;
+    at = h.at;
+    state = h.state;
+    stands = h.stands;
+    config = h.config;
+    names = subst (AreNamesOf h.image.slots c.depth c.store h.state) (sym e) h.is.are;
+  }
+
+-- 3. The core.
+
+module _ (wanted : Names) (c0 c1 c2 c3 : code.Configs) (r : Reaches wanted c0) (mask : ℕ) (one : HasReadSlots r.state.core c0 c1 mask)
+    (two : HasReadQueues r.state.core c1 c2) (three : HasReadOutputs r.state.core c2 c3) where
+  abbrev was : Core
+  was = r.at.machine.core
+
+  abbrev to : Core
+  to = r.state.core
+
+  own : IsCore was
+  own = config_core r.image r.at.machine r.stands.image r.stands.machine.config
+
+  aim : IsCore to
+  aim = config_core r.image r.state r.stands.image r.config
+
+  core_1 : c1.core ≡ was
+  core_1 = ap (λ (c : code.Configs). c.core) one.others ∙ r.stands.machine.core
+
+  core_2 : c2.core ≡ was
+  core_2 = ap (λ (c : code.Configs). c.core) two.others ∙ core_1
+
+  core_3 : c3.core ≡ was
+  core_3 = ap (λ (c : code.Configs). c.core) three.others ∙ core_2
+
+  same_slots : map identity_of (slots_of was) ≡ map identity_of (slots_of to)
+  same_slots = r.stands.machine.config.state.fits.same_slots ∙ sym r.config.state.fits.same_slots
+
+  rows_of : (core : Core) → length (map identity_of (slots_of core)) ≡ length core.rows
+  rows_of core = length-map (slots_of core) identity_of ∙ length-map core.rows (λ (row : ThreadRow). row.slot)
+
+  as_many : length was.rows ≡ length to.rows
+  as_many = sym (rows_of was) ∙ ap length same_slots ∙ rows_of to
+
+  pub room_is : map identity_of c3.slots.items ≡ map identity_of (slots_of c3.core)
+  room_is =
+      ap (λ s. map identity_of s.items) three.room ∙ ap (λ s. map identity_of s.items) two.room ∙ one.room ∙ r.stands.room
+      ∙ sym r.stands.machine.config.state.fits.same_slots ∙ ap (λ (k : Core). map identity_of (slots_of k)) (sym core_3)
+
+  many : length c3.slots.items ≡ length was.rows
+  many =
+      sym (length-map c3.slots.items identity_of) ∙ ap length room_is ∙ ap (λ (k : Core). length (map identity_of (slots_of k))) core_3 ∙ rows_of was
+
+  base_many : length c0.base.items ≡ length was.rows
+  base_many =
+      ap length r.stands.base ∙ sym (length-map r.image.slots identity_of) ∙ ap length (sym r.stands.machine.config.state.fits.same_slots) ∙ rows_of was
+
+  slots_lead : (k : ℕ) → k < length was.rows
+      → (if slice_index_or (flags (length c3.slots.items) mask) k false then slice_index_or c3.slots.items k no_slot else slot_in was k) ≡ slot_in to k
+  slots_lead k lt =
+      let long : length c0.base.items ≡ length c3.slots.items = base_many ∙ sym many in
+      let items : c1.slots.items ≡ c3.slots.items = ap (λ s. s.items) (sym (three.room ∙ two.room)) in
+      subst (λ n. (if slice_index_or (flags n mask) k false then slice_index_or c3.slots.items k no_slot else slot_in was k) ≡ slot_in to k) long
+      (subst (λ (l : List Slot). (if slice_index_or (flags (length c0.base.items) mask) k false then slice_index_or l k no_slot else slot_in was k) ≡ slot_in to k) items
+      (subst (λ (core : Core). (if slice_index_or (flags (length c0.base.items) mask) k false then slice_index_or c1.slots.items k no_slot else slot_in core k) ≡ slot_in to k)
+      r.stands.machine.core (one.slots k (omega (arith, base_many, lt)))))
+
+  abbrev Queued : ℕ × List Event → Type 0
+  Queued x = (x.0 < length was.rows) × (x.1 ≡ queue_in to x.0)
+
+  queued : AllByRecursion Queued (queues_in c3.revision)
+  queued =
+      subst (λ (q : Vec (ℕ × Vec Event Global) Global). AllByRecursion Queued (map queue_in_place q.items)) (sym three.queues)
+      (subst (λ (core : Core). AllByRecursion (λ (x : ℕ × List Event). (x.0 < length core.rows) × (x.1 ≡ queue_in to x.0)) (queues_in c2.revision)) core_1 two.queues)
+
+  extended : AllByRecursion (Extends was to) (outputs_in c3.revision)
+  extended = subst (λ (core : Core). AllByRecursion (Extends core to) (outputs_in c3.revision)) core_2 three.outputs
+
+  leads : LeadsTo was to (flags (length c3.slots.items) mask) c3.slots.items (queues_in c3.revision) (outputs_in c3.revision)
+  leads = record {
+    rows = as_many;
+    groups = own.formed.outputs ∙ sym aim.formed.outputs;
+    version = r.stands.machine.config.state.fits.version ∙ sym r.config.state.fits.version;
+    split = r.stands.machine.config.state.fits.split ∙ sym r.config.state.fits.split;
+    flags = length-flags (length c3.slots.items) mask ∙ many;
+    many = many;
+    slots = slots_lead;
+    queues = each_map Queued (λ (x : ℕ × List Event). x.1 ≡ queue_in to x.0) (λ x h. h.1) (queues_in c3.revision) queued;
+    other_queues = λ k lt.
+        subst (λ (q : Vec (ℕ × Vec Event Global) Global). IsListed (λ (x : ℕ × List Event). x.0) k (map queue_in_place q.items) ⊎ (queue_in was k ≡ queue_in to k)) (sym three.queues)
+        (subst (λ (core : Core). IsListed (λ (x : ℕ × List Event). x.0) k (queues_in c2.revision) ⊎ (queue_in core k ≡ queue_in to k)) core_1
+        (two.rest k (subst (λ (core : Core). k < length core.rows) (sym core_1) lt)));
+    outputs = extended;
+    other_outputs = λ g lt.
+        subst (λ (core : Core). IsListed (λ (x : Extension). x.group) g (outputs_in c3.revision) ⊎ (output_of core g ≡ output_of to g)) core_2
+        (three.rest g (subst (λ (core : Core). g < length core.outputs) (sym core_2) lt));
+  }
+
+  pub core_is : revised c3.core (flags (length c3.slots.items) mask) c3.slots.items (queues_in c3.revision) (outputs_in c3.revision) ≡ to
+  core_is =
+      ap (λ (k : Core). revised k (flags (length c3.slots.items) mask) c3.slots.items (queues_in c3.revision) (outputs_in c3.revision)) core_3
+      ∙ revised_is was to (flags (length c3.slots.items) mask) c3.slots.items (queues_in c3.revision) (outputs_in c3.revision) leads
+
+  pub whole : IsCore (revised c3.core (flags (length c3.slots.items) mask) c3.slots.items (queues_in c3.revision) (outputs_in c3.revision))
+  whole = subst IsCore (sym core_is) aim
+
+  pub few_slots : length c3.slots.items ≤ 64
+  few_slots = let few = few_rows was own.formed.rising (small_numbers was own) in omega (arith, many, few)
+
+  short_queue : (k : ℕ) → k < length to.rows → length (queue_in to k) ≤ 64
+  short_queue k lt =
+      subst (λ (q : List Event). length q ≤ 64) (queue_found to (apart_in to aim) k lt) (queue_short to aim.matched (slot_in to k).number aim.formed)
+
+  pub short_queues : AllByRecursion (λ (x : ℕ × List Event). (x.0 < length c3.slots.items) × (length x.1 ≤ 64)) (queues_in c3.revision)
+  short_queues = each_map Queued (λ (x : ℕ × List Event). (x.0 < length c3.slots.items) × (length x.1 ≤ 64)) (λ x h.
+      let inside = h.0 in
+      (omega (arith, many, inside), subst (λ (q : List Event). length q ≤ 64) (sym h.1) (short_queue x.0 (omega (arith, as_many, inside)))))
+      (queues_in c3.revision) queued
+
+  pub short_outputs : AllByRecursion (λ (x : Extension). (x.group < 64) × (x.kept + length x.bytes ≤ 65536)) (outputs_in c3.revision)
+  short_outputs = each_map (Extends was to) (λ (x : Extension). (x.group < 64) × (x.kept + length x.bytes ≤ 65536)) (λ x e.
+      let inside = e.inside in
+      let groups = own.formed.outputs in
+      let cut : length (take x.kept (output_of was x.group)) ≡ x.kept = length-take-le x.kept (output_of was x.group) e.kept in
+      let both = length-append (take x.kept (output_of was x.group)) x.bytes in
+      let all = ap length e.is in
+      let short = output_short to aim x.group in
+      (omega (arith, inside, groups), omega (arith, cut, both, all, short)))
+      (outputs_in c3.revision) extended
+
+-- 4. All.
+
+module _ (c0 c1 c4 : code.Configs) (key : ℕ × ℕ) (h : HasConfiguration c0 key) (core : HasPutCore h.state.core c0 c1) (more : HasMoreCells c1.store c4.store)
+    (memory : c4.mem.memory ≡ h.state.memory) (uses : c4.mem.uses ≡ c1.mem.uses) (mapped : c4.mapped.items ≡ mapped_pages c4.mem.memory) (names : c4.names ≡ h.is.names) (rest : c4.rest ≡ key.1)
+    (others : c4 ≡ record c1 { mem = c4.mem; mapped = c4.mapped; store = c4.store; names = c4.names; rest = c4.rest; changed = c4.changed; changed_cells = c4.changed_cells }) where
+  stays : IsKeptStill c0.store c4.store
+  stays = subst (λ (k : Store). IsKeptStill k c4.store) (ap (λ (c : code.Configs). c.store) core.others) (still_more c1.store c4.store more)
+
+  depth_is : c4.depth ≡ c0.depth
+  depth_is = ap (λ (c : code.Configs). c.depth) others ∙ ap (λ (c : code.Configs). c.depth) core.others
+
+  pub put_stands : Stands h.image (record h.at { machine = h.state }) c4
+  put_stands =
+      stands_at h.image h.at h.state c0 c4 h.stands
+      (ap (λ (c : code.Configs). c.base) others ∙ ap (λ (c : code.Configs). c.base) core.others)
+      (ap (λ (c : code.Configs). map identity_of c.slots.items) others ∙ core.room)
+      depth_is
+      (ap (λ (c : code.Configs). c.kept) others ∙ ap (λ (c : code.Configs). c.kept) core.others)
+      stays
+      (record {
+        core = ap (λ (c : code.Configs). c.core) others ∙ core.is;
+        memory = memory;
+        config = h.config;
+        uses = subst (λ n. n < 2 ^ 61) (sym (uses ∙ ap (λ (c : code.Configs). c.mem.uses) core.others)) h.stands.machine.uses;
+        mapped = mapped ∙ ap mapped_pages memory;
+      })
+      (record {
+        names = subst (λ d. AreNamesOf h.image.slots d c4.store h.state c4.names) (sym depth_is)
+            (subst (AreNamesOf h.image.slots c0.depth c4.store h.state) (sym names) (names_stay c0.store c4.store stays h.image.slots c0.depth h.state h.is.names h.is.are));
+        rest = subst (λ (n : Names). IsRest c4.store.pairs n c4.rest) (sym names) (subst (IsRest c4.store.pairs h.is.names) (sym rest) (rest_stays c0.store c4.store stays h.is.names key.1 h.is.rest));
+      })

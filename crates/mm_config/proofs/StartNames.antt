@@ -1,0 +1,30 @@
+-- Names at the start.
+use Rattle.std.proofs.Common.{◌≡◌, ◌⊎◌, inl, inr, ℕ, zero, suc, ◌+◌, ◌<◌, ◌≤◌, ◌^◌, List, [], ◌∷◌, ◌++◌, length, take, slice_get, slice_index_or, Option, Some, None, refl, sym, ap, ◌∙◌, subst, arith}
+use Rattle.std.proofs.lemmas.{Bool.{cases_eq, cases_lt}, Option.{slice_get-get_or, slice_get_past}}
+use Rattle.mm_pairs.specs.Trees.{IsTree}
+use Rattle.mm_config.specs.Naming.{AreLeaves, IsOrNone, leaf_at}
+use Rattle.mm_config.proofs.PageTrees.{none_tree, none_at}
+
+-- nothing has the leaves of the name 0
+pub no_leaves : {A : Type 0} (Is : A → ℕ → Type 0) (pairs : List (ℕ × ℕ)) (depth : ℕ) → AreLeaves Is [] pairs depth 0
+no_leaves Is pairs depth = record { inner = none_tree pairs depth; wide = omega arith; each = λ at. none_at pairs depth at }
+
+-- nor have things each of which has the name 0
+pub zero_leaves : {A : Type 0} (Is : A → ℕ → Type 0) (xs : List A) (d : A) (pairs : List (ℕ × ℕ)) (depth : ℕ) → length xs ≤ 2 ^ depth
+    → ((at : ℕ) → at < length xs → Is (slice_index_or xs at d) 0) → AreLeaves Is xs pairs depth 0
+zero_leaves Is xs d pairs depth wide each = record {
+  inner = none_tree pairs depth;
+  wide = wide;
+  each = λ at. subst (IsOrNone Is (slice_get xs at)) (sym (none_at pairs depth at)) (by at (cases_lt at (length xs)));
+}
+  where
+    by : (at : ℕ) → (at < length xs) ⊎ (length xs ≤ at) → IsOrNone Is (slice_get xs at) 0
+    by at (inl lt) = subst (λ o. IsOrNone Is o 0) (sym (slice_get-get_or xs at d lt)) (each at lt)
+    by at (inr high) = subst (λ o. IsOrNone Is o 0) (sym (slice_get_past xs at high)) refl
+
+-- the next leaf is named
+pub next_leaf : {A : Type 0} (Is Now : A → ℕ → Type 0) → ((x : A) (name : ℕ) → Is x name → Now x name) → (xs : List A) (d : A) (old new : List (ℕ × ℕ)) (depth was tree n : ℕ)
+    → n < length xs → length xs ≤ 2 ^ depth → AreLeaves Is (take n xs) old depth was → IsTree new depth tree
+    → Now (slice_index_or xs n d) (leaf_at new depth tree n) → ((k : ℕ) → (k ≡ n → ⊥) → leaf_at new depth tree k ≡ leaf_at old depth was k)
+    → AreLeaves Now (take (n + 1) xs) new depth tree
+next_leaf Is Now stable xs d old new depth was tree n lt wide of inner here there = ?

@@ -1,0 +1,13 @@
+pub mod Configurations
+pub mod StateNumbers
+pub mod States
+pub mod Forms
+pub mod Places
+pub mod Chains
+pub mod Naming
+pub mod Noting
+pub mod Putting
+pub mod Machines
+pub mod Keeping
+pub mod Reaching
+pub mod Turning

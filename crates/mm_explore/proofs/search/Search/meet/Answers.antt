@@ -1,0 +1,12 @@
+use Rattle.std.proofs.Common.{◌≡◌, sym, ap, ◌∙◌, arith}
+use Rattle.mm_explore.specs.{Explored.leads_to, FoundLists.{with_configs, led_by}}
+use Rattle.mm_explore.proofs.Steps.{met_known, met_new, met_full}
+use Rattle.mm_explore.proofs.search.Search.meet.Goals as goal
+
+pub keep-requires : goal.keep-requires
+keep-requires c =
+    let s = c.args.self.now in
+    record { stands = (c.args.img.now, with_configs c.args.img.now s.found (leads_to c.args.img.now (led_by s.found c.args.origin)), c.requires.at) }
+
+pub returns-in-Known : goal.returns-in-Known
+returns-in-Known c = ?

@@ -1,0 +1,37 @@
+use Rattle.std.proofs.Common.{◌≡◌, suc, ◌-◌, ◌^◌, ◌++◌, ◌∙◌, sym, ap, arith}
+use Rattle.std.proofs.lemmas.{List.append-nil, Nat.one_shl, Result.on_ok_weaker}
+use Rattle.std.proofs.Math.Nat.{pow-suc}
+use Rattle.mm_pairs.specs.Trees.{leaves, changed}
+use Rattle.mm_pairs.proofs.{Names.two, Changes.{changed_none, listed}}
+use Rattle.mm_pairs.proofs.pairs.Pairs.+list_changed.Goals as goal
+
+pub returns-then-was-tree : goal.returns-then-was-tree
+returns-then-was-tree t c =
+    let names = leaves c.args.self.now c.args.depth c.args.tree in
+    sym (append-nil c.args.out.now.items) ∙ ap (λ l. c.args.out.now.items ++ l)
+    (sym (ap (λ n. changed c.args.first (leaves c.args.self.now c.args.depth n) names) c.if-was-tree.true ∙ changed_none c.args.first names))
+
+pub list_changed-requires-2 : goal.list_changed-requires-2
+list_changed-requires-2 t c =
+    let d = c.args.depth - 1 in
+    let small = c.requires.depth in
+    let room = c.requires.room in
+    let is : c.args.depth ≡ suc d = omega arith in
+    let half = one_shl d 64 (omega (arith, small)) in
+    let twice = ap (λ n. 2 ^ n) is in
+    let more = pow-suc 2 d in
+    let now = c.args.self.now in
+    let inner_was = (two now c.args.depth d c.args.was 0 c.parts-was_left.result is c.parts-was_left.ensures c.requires.was).1 in
+    let inner_tree = (two now c.args.depth d c.args.tree 0 c.parts-left.result is c.parts-left.ensures c.requires.tree).1 in
+    (omega arith, (inner_was, (inner_tree, (omega arith, omega (arith, half, twice, more, room)))))
+
+pub returns : goal.returns
+returns t c =
+    let d = c.args.depth - 1 in
+    let small = c.requires.depth in
+    let is : c.args.depth ≡ suc d = omega arith in
+    let half = one_shl d 64 (omega (arith, small)) in
+    on_ok_weaker c.list_changed-2.result
+    (listed c.args.self.now c.args.depth d c.args.first _ c.args.was c.args.tree c.parts-was_left.result c.parts-left.result is c.parts-was_left.ensures c.parts-left.ensures half
+    c.args.out.now.items c.list_changed.new.out.items c.list_changed-2.new.out.items c.in_ok-list_changed.ensures)
+    c.list_changed-2.ensures
