@@ -128,6 +128,14 @@ fn move_pointer(slot: &Slot, rd: Reg, ra: Reg, by: i64) -> Planned
     }
 }
 
+/// `br`: a branch.
+#[inline(always)]
+pub(crate) fn br(imm: i32) -> Planned
+    ensures { (split : Bool) (s : SlotValue) → effect split (Instr.Br imm) s Fine ≡ effect_of s result }
+{
+    Ok(Action::Branch(imm))
+}
+
 /// `bz`: a branch if a word's bits are 0, and else only the step to the next instruction.
 #[inline(always)]
 pub(crate) fn bz(slot: &Slot, ra: Reg, imm: i32) -> Planned

@@ -1,12 +1,12 @@
 //! The table of the instructions that concern their slot alone.
 
-ghost use Rattle.std.specs.Prelude.{◌≡◌, ◌<◌, ◌^◌, Bool, true, false};
+ghost use Rattle.std.specs.Prelude.{◌≡◌, ◌<◌, ◌^◌, Bool, true, false, IfSome, IfNone};
 ghost use Rattle.mm_model.specs.Effect.{effect};
 ghost use Rattle.mm_model.specs.Effect.Reply.{Fine};
-ghost use Rattle.mm_thread.specs.Ends.{EndsAlone, is_alone, is_common};
+ghost use Rattle.mm_thread.specs.Ends.{EndsAlone, is_alone, is_common, effect_of};
 
 use crate::actions;
-use crate::actions::{Action, act};
+use crate::actions::{Planned, act};
 use crate::local_ops;
 use crate::local_ops::Entered;
 use mm_isa::Instr;
@@ -20,21 +20,31 @@ pub(crate) fn carry_out(slot: &mut Slot, instr: &Instr) -> Entered
     requires alone { is_alone instr.now ≡ true }
     ensures { (split : Bool) → EndsAlone (effect split instr.now slot.old Fine) slot.old slot.new result }
 {
-    let planned = match *instr {
-        Instr::Ldi { rd, imm } => actions::ldi(rd, imm),
-        Instr::Mov { rd, ra } => actions::mov(slot, rd, ra),
-        Instr::Alu { op, rd, ra, rb } => actions::operate(slot, op, rd, ra, rb),
-        Instr::Addi { rd, ra, imm } => actions::addi(slot, rd, ra, imm),
-        Instr::Lea { rd, ra, rb } => actions::lea_by(slot, rd, ra, rb),
-        Instr::Leai { rd, ra, imm } => actions::leai(slot, rd, ra, imm),
-        Instr::Br { imm } => Ok(Action::Branch(imm)),
-        Instr::Bz { ra, imm } => actions::bz(slot, ra, imm),
-        Instr::Bnz { ra, imm } => actions::bnz(slot, ra, imm),
-        _ => return carry_out_seldom(slot, *instr),
-    };
-    match planned {
-        Ok(action) => act(slot, &action),
-        Err(cause) => Err(cause),
+    match plan(slot, instr) {
+        Some(Ok(action)) => act(slot, &action),
+        Some(Err(cause)) => Err(cause),
+        None => carry_out_seldom(slot, *instr),
+    }
+}
+
+/// What a common instruction does; `None` if the instruction is not one of the nine that most words spell.
+#[inline(always)]
+fn plan(slot: &Slot, instr: &Instr) -> Option<Planned>
+    ensures planned { IfSome result (λ planned. (split : Bool)
+        → effect split instr.now slot.now Fine ≡ effect_of slot.now planned) }
+    ensures seldom { IfNone result (is_common instr.now ≡ false) }
+{
+    match *instr {
+        Instr::Ldi { rd, imm } => Some(actions::ldi(rd, imm)),
+        Instr::Mov { rd, ra } => Some(actions::mov(slot, rd, ra)),
+        Instr::Alu { op, rd, ra, rb } => Some(actions::operate(slot, op, rd, ra, rb)),
+        Instr::Addi { rd, ra, imm } => Some(actions::addi(slot, rd, ra, imm)),
+        Instr::Lea { rd, ra, rb } => Some(actions::lea_by(slot, rd, ra, rb)),
+        Instr::Leai { rd, ra, imm } => Some(actions::leai(slot, rd, ra, imm)),
+        Instr::Br { imm } => Some(actions::br(imm)),
+        Instr::Bz { ra, imm } => Some(actions::bz(slot, ra, imm)),
+        Instr::Bnz { ra, imm } => Some(actions::bnz(slot, ra, imm)),
+        _ => None,
     }
 }
 
