@@ -60,10 +60,7 @@ pub(crate) fn act(slot: &mut Slot, action: &Action) -> Entered
 pub(crate) fn ldi(rd: Reg, imm: i32) -> Planned
     ensures { (split : Bool) (s : SlotValue) → effect split (Instr.Ldi rd imm) s Fine ≡ effect_of s result }
 {
-    Ok(Action::Write(
-        rd,
-        Word::Int(i64::from(imm).cast_unsigned()),
-    ))
+    Ok(Action::Write(rd, Word::Int(i64::from(imm).cast_unsigned())))
 }
 
 /// `mov`: a register gets a word, be it an integer or a pointer.

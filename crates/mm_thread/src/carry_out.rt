@@ -5,13 +5,11 @@ ghost use Rattle.mm_model.specs.Effect.{effect};
 ghost use Rattle.mm_model.specs.Effect.Reply.{Fine};
 ghost use Rattle.mm_thread.specs.Ends.{EndsAlone, is_alone, is_common, effect_of};
 
-use crate::actions;
 use crate::actions::{Planned, act};
-use crate::local_ops;
 use crate::local_ops::Entered;
+use crate::{actions, local_ops};
 use mm_isa::Instr;
 use mm_model::Slot;
-use mm_word::Cause;
 
 /// Carries out an instruction that concerns its slot alone.
 #[inline(always)]

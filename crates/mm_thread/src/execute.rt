@@ -94,9 +94,7 @@ fn reach_out<M: Memory>(
         Instr::Evt { rd } => untouched(next_event(tables, slot_index, rd)),
         Instr::Resume { ra, how } => untouched(resume(tables, slot_index, ra, how)),
         Instr::Rreg { rd, ra, reg } => untouched(read_register(tables, slot_index, rd, ra, reg)),
-        Instr::Wreg { ra, rb, reg } => untouched(write_register(
-            tables, slot_index, ra, rb, reg,
-        )),
+        Instr::Wreg { ra, rb, reg } => untouched(write_register(tables, slot_index, ra, rb, reg)),
         Instr::Map { rd, ra } => map(tables, slot_index, mem, rd, ra),
         Instr::Unmap { rd, ra } => unmap(tables, slot_index, mem, rd, ra),
         _ => unreachable!(),

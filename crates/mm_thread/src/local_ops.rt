@@ -8,14 +8,13 @@ ghost use Rattle.mm_word.specs.Word.{word_bits};
 ghost use Rattle.mm_word.specs.Pointer.{enter_result, next_result};
 ghost use Rattle.mm_model.specs.Slot.{register};
 ghost use Rattle.mm_model.specs.Ask.{is_privileged};
-ghost use Rattle.mm_model.specs.Effect.{effect, sets_pointer, branches, at_distance, high_and_low, test};
-ghost use Rattle.mm_model.specs.Effect.{entry_of, jumps, links, plain};
-ghost use Rattle.mm_model.specs.Effect.Effect.{Do};
+ghost use Rattle.mm_model.specs.Effect.{effect, sets_pointer, at_distance, high_and_low, test};
+ghost use Rattle.mm_model.specs.Effect.{entry_of, jumps, links};
 ghost use Rattle.mm_model.specs.Effect.Reply.{Fine};
 ghost use Rattle.mm_thread.specs.Ends.{EndsAlone, pointer_in};
 
 use crate::slot::{advance, go_to, link, sets, stand, word_of};
-use mm_isa::{AluOp, Instr, Reg, alu};
+use mm_isa::{Instr, Reg};
 use mm_model::{Slot, SlotState, is_same_word};
 use mm_word::{Cause, GuardedPtr, Perm, Word, enter, lea, leab, next, restrict, setptr, subseg};
 
