@@ -1,8 +1,9 @@
 //! The table of instructions: a row for each that needs more than its slot, and one row for all others.
 
-ghost use Rattle.std.specs.Prelude.{◌≡◌, ◌<◌, ◌^◌, ◌&&◌, false};
+ghost use Rattle.std.specs.Prelude.{◌≡◌, ◌<◌, ◌^◌, ◌&&◌, true, false};
 ghost use Rattle.mm_model.specs.Operands.{lacks};
 ghost use Rattle.mm_thread.specs.SlotIndices.{slot_in};
+ghost use Rattle.mm_thread.specs.Ends.{reaches_out};
 ghost use Rattle.mm_thread.specs.Execution.{CanTurn, Executes};
 
 use crate::completion::Retired;
@@ -27,7 +28,6 @@ pub(crate) fn execute<M: Memory>(
         tables.new result }
 {
     match instr {
-        Instr::Out { ra } => untouched(put_out(tables, slot_index, *ra)),
         Instr::Ld {
             rd,
             ra,
@@ -64,14 +64,39 @@ pub(crate) fn execute<M: Memory>(
                 post: *post,
             },
         ),
-        Instr::Evt { rd } => untouched(next_event(tables, slot_index, *rd)),
-        Instr::Resume { ra, how } => untouched(resume(tables, slot_index, *ra, *how)),
-        Instr::Rreg { rd, ra, reg } => untouched(read_register(tables, slot_index, *rd, *ra, *reg)),
-        Instr::Wreg { ra, rb, reg } => untouched(write_register(
-            tables, slot_index, *ra, *rb, *reg,
-        )),
-        Instr::Map { rd, ra } => map(tables, slot_index, mem, *rd, *ra),
-        Instr::Unmap { rd, ra } => unmap(tables, slot_index, mem, *rd, *ra),
+        Instr::Out { .. }
+        | Instr::Evt { .. }
+        | Instr::Resume { .. }
+        | Instr::Rreg { .. }
+        | Instr::Wreg { .. }
+        | Instr::Map { .. }
+        | Instr::Unmap { .. } => reach_out(tables, slot_index, mem, *instr),
         _ => untouched(go_alone(tables, slot_index, instr)),
+    }
+}
+
+/// Carries out an instruction that reaches the outputs, the queue, another slot or the pages. It stays a call, since few
+/// words spell one, so that the loop of cycles has the others.
+#[inline(never)]
+fn reach_out<M: Memory>(
+    tables: &mut Tables,
+    slot_index: usize,
+    mem: &mut M,
+    instr: Instr,
+) -> Retired
+    requires can { CanTurn tables.old slot_index }
+    requires reaches { reaches_out instr ≡ true }
+    ensures { Executes M.meaning M.uses M.stands tables.old (slot_in tables.old slot_index) instr mem.old mem.new tables.new
+        result }
+{
+    match instr {
+        Instr::Out { ra } => untouched(put_out(tables, slot_index, ra)),
+        Instr::Evt { rd } => untouched(next_event(tables, slot_index, rd)),
+        Instr::Resume { ra, how } => untouched(resume(tables, slot_index, ra, how)),
+        Instr::Rreg { rd, ra, reg } => untouched(read_register(tables, slot_index, rd, ra, reg)),
+        Instr::Wreg { ra, rb, reg } => untouched(write_register(tables, slot_index, ra, rb, reg)),
+        Instr::Map { rd, ra } => map(tables, slot_index, mem, rd, ra),
+        Instr::Unmap { rd, ra } => unmap(tables, slot_index, mem, rd, ra),
+        _ => unreachable!(),
     }
 }

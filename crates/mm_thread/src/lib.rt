@@ -10,7 +10,8 @@
 //! | how it keeps slots with their queues, and which of them run | `tables`, `row`, `queue`, `run_mask` |
 //! | how it keeps what groups put out | `group_output`, `output` |
 //! | a turn: whose it is, from its fetch to its end, a fault | `item`, `slot_turn`, `fault` |
-//! | the table of instructions that concern their slot alone, and a function for each | `carry_out`, `local_ops` |
+//! | the table of instructions that concern their slot alone | `carry_out` |
+//! | what the common ones of them do, and a function for each other | `actions`, `local_ops` |
 //! | observers of turns, and what they are shown | `watch`, `told` |
 //! | the changes of a turn to its slot | `slot` |
 //! | the table of the other instructions | `execute` |
@@ -18,6 +19,7 @@
 //! | the values of an instruction's operands, and how an instruction ends | `operands`, `completion` |
 #![tactic(auto)]
 
+mod actions;
 mod build;
 mod carry_out;
 mod completion;

@@ -8,14 +8,13 @@ ghost use Rattle.mm_word.specs.Word.{word_bits};
 ghost use Rattle.mm_word.specs.Pointer.{enter_result, next_result};
 ghost use Rattle.mm_model.specs.Slot.{register};
 ghost use Rattle.mm_model.specs.Ask.{is_privileged};
-ghost use Rattle.mm_model.specs.Effect.{effect, sets_pointer, branches, at_distance, high_and_low, test};
-ghost use Rattle.mm_model.specs.Effect.{entry_of, jumps, links, plain};
-ghost use Rattle.mm_model.specs.Effect.Effect.{Do};
+ghost use Rattle.mm_model.specs.Effect.{effect, sets_pointer, at_distance, high_and_low, test};
+ghost use Rattle.mm_model.specs.Effect.{entry_of, jumps, links};
 ghost use Rattle.mm_model.specs.Effect.Reply.{Fine};
 ghost use Rattle.mm_thread.specs.Ends.{EndsAlone, pointer_in};
 
 use crate::slot::{advance, go_to, link, sets, stand, word_of};
-use mm_isa::{AluOp, Instr, Reg, alu};
+use mm_isa::{Instr, Reg};
 use mm_model::{Slot, SlotState, is_same_word};
 use mm_word::{Cause, GuardedPtr, Perm, Word, enter, lea, leab, next, restrict, setptr, subseg};
 
@@ -33,23 +32,11 @@ pub(crate) fn halt(slot: &mut Slot) -> Entered
 }
 
 /// `nop`: changes nothing, and goes on to the next instruction.
-#[inline(always)]
 pub(crate) fn nop(slot: &mut Slot) -> Entered
     requires { slot.old.turns < 2 ^ 62 }
-    ensures ends { (split : Bool) → EndsAlone (effect split Instr.Nop slot.old Fine) slot.old slot.new result }
-    ensures as_step { EndsAlone (Do (plain slot.old)) slot.old slot.new result }
+    ensures { (split : Bool) → EndsAlone (effect split Instr.Nop slot.old Fine) slot.old slot.new result }
 {
     advance(slot);
-    Ok(None)
-}
-
-/// `ldi`: writes the constant to a register, with its sign extended to 64 bits.
-#[inline(always)]
-pub(crate) fn ldi(slot: &mut Slot, rd: Reg, imm: i32) -> Entered
-    requires { slot.old.turns < 2 ^ 62 }
-    ensures { (split : Bool) → EndsAlone (effect split (Instr.Ldi rd imm) slot.old Fine) slot.old slot.new result }
-{
-    sets(slot, rd, Word::Int(i64::from(imm).cast_unsigned()));
     Ok(None)
 }
 
@@ -68,17 +55,6 @@ fn high_and_low(bits: u64, imm: i32) -> u64
     ensures { result ≡ high_and_low bits imm }
 {
     bits << 32 | u64::from(imm.cast_unsigned())
-}
-
-/// `mov`: copies a word, be it an integer or a pointer, to a register.
-#[inline(always)]
-pub(crate) fn mov(slot: &mut Slot, rd: Reg, ra: Reg) -> Entered
-    requires { slot.old.turns < 2 ^ 62 }
-    ensures { (split : Bool) → EndsAlone (effect split (Instr.Mov rd ra) slot.old Fine) slot.old slot.new result }
-{
-    let word = word_of(slot, ra);
-    sets(slot, rd, word);
-    Ok(None)
 }
 
 /// `isptr`: writes to a register 1 if a word is a pointer, and else 0.
@@ -118,35 +94,6 @@ pub(crate) fn self_slot(slot: &mut Slot, rd: Reg) -> Entered
     Ok(None)
 }
 
-/// `add` to `lts`: writes to a register an integer made of the bits of two words. A division by 0 faults.
-#[inline(always)]
-pub(crate) fn operate(slot: &mut Slot, op: AluOp, rd: Reg, ra: Reg, rb: Reg) -> Entered
-    requires { slot.old.turns < 2 ^ 62 }
-    ensures { (split : Bool) → EndsAlone (effect split (Instr.Alu op rd ra rb) slot.old Fine) slot.old slot.new result }
-{
-    let (a, b) = (word_of(slot, ra).bits(), word_of(slot, rb).bits());
-    match alu(op, a, b) {
-        Ok(number) => {
-            sets(slot, rd, Word::Int(number));
-            Ok(None)
-        }
-        Err(_) => Err(Cause::DivZero),
-    }
-}
-
-/// `addi`: writes to a register the sum of a word's bits and the constant, modulo 2^64.
-#[inline(always)]
-pub(crate) fn addi(slot: &mut Slot, rd: Reg, ra: Reg, imm: i32) -> Entered
-    requires { slot.old.turns < 2 ^ 62 }
-    ensures { (split : Bool) → EndsAlone (effect split (Instr.Addi rd ra imm) slot.old Fine) slot.old slot.new result }
-{
-    let sum = word_of(slot, ra)
-        .bits()
-        .wrapping_add(i64::from(imm).cast_unsigned());
-    sets(slot, rd, Word::Int(sum));
-    Ok(None)
-}
-
 /// The pointer in a register, or the fault that there is none.
 #[inline(always)]
 fn pointer_of(slot: &Slot, ra: Reg) -> Result<GuardedPtr, Cause>
@@ -180,31 +127,6 @@ fn signed_word_of(slot: &Slot, r: Reg) -> i64
     ensures { result ≡ cast_signed w64 (word_bits (register slot.now r)) }
 {
     word_of(slot, r).bits().cast_signed()
-}
-
-/// `lea`: writes to a register a pointer that is moved by as many bytes as another word says.
-#[inline(always)]
-pub(crate) fn lea_by(slot: &mut Slot, rd: Reg, ra: Reg, rb: Reg) -> Entered
-    requires { slot.old.turns < 2 ^ 62 }
-    ensures { (split : Bool) → EndsAlone (effect split (Instr.Lea rd ra rb) slot.old Fine) slot.old slot.new result }
-{
-    let by = signed_word_of(slot, rb);
-    match pointer_of(slot, ra) {
-        Ok(p) => sets_pointer(slot, rd, lea(p, by)),
-        Err(cause) => Err(cause),
-    }
-}
-
-/// `leai`: writes to a register a pointer that is moved by `imm` bytes.
-#[inline(always)]
-pub(crate) fn leai(slot: &mut Slot, rd: Reg, ra: Reg, imm: i32) -> Entered
-    requires { slot.old.turns < 2 ^ 62 }
-    ensures { (split : Bool) → EndsAlone (effect split (Instr.Leai rd ra imm) slot.old Fine) slot.old slot.new result }
-{
-    match pointer_of(slot, ra) {
-        Ok(p) => sets_pointer(slot, rd, lea(p, i64::from(imm))),
-        Err(cause) => Err(cause),
-    }
 }
 
 /// `leab`: writes to a register a pointer that is moved to as many bytes after its segment's base as another word says.
@@ -265,53 +187,11 @@ pub(crate) fn set_pointer(slot: &mut Slot, rd: Reg, ra: Reg) -> Entered
 
 /// The instruction pointer moved by `imm` words.
 #[inline(always)]
-fn at_distance(slot: &Slot, imm: i32) -> Result<GuardedPtr, Cause>
+pub(crate) fn at_distance(slot: &Slot, imm: i32) -> Result<GuardedPtr, Cause>
     ensures pointer { result ≡ at_distance slot.now imm }
     ensures executable { IfOk result (λ p. can_fetch p.perm ≡ true) }
 {
     lea(slot.ip, 8 * i64::from(imm))
-}
-
-/// `br`: goes on `imm` words from the instruction.
-#[inline(always)]
-pub(crate) fn br(slot: &mut Slot, imm: i32) -> Entered
-    requires { slot.old.turns < 2 ^ 62 }
-    ensures ends { (split : Bool) → EndsAlone (effect split (Instr.Br imm) slot.old Fine) slot.old slot.new result }
-    ensures as_branch { EndsAlone (branches slot.old (at_distance slot.old imm)) slot.old slot.new result }
-{
-    match at_distance(slot, imm) {
-        Ok(p) => {
-            go_to(slot, p);
-            Ok(None)
-        }
-        Err(cause) => Err(cause),
-    }
-}
-
-/// `bz`: goes on `imm` words from the instruction if a word's bits are 0, and else at the next instruction.
-#[inline(always)]
-pub(crate) fn bz(slot: &mut Slot, ra: Reg, imm: i32) -> Entered
-    requires { slot.old.turns < 2 ^ 62 }
-    ensures { (split : Bool) → EndsAlone (effect split (Instr.Bz ra imm) slot.old Fine) slot.old slot.new result }
-{
-    if word_of(slot, ra).bits() == 0 {
-        br(slot, imm)
-    } else {
-        nop(slot)
-    }
-}
-
-/// `bnz`: goes on `imm` words from the instruction if a word's bits are not 0, and else at the next instruction.
-#[inline(always)]
-pub(crate) fn bnz(slot: &mut Slot, ra: Reg, imm: i32) -> Entered
-    requires { slot.old.turns < 2 ^ 62 }
-    ensures { (split : Bool) → EndsAlone (effect split (Instr.Bnz ra imm) slot.old Fine) slot.old slot.new result }
-{
-    if word_of(slot, ra).bits() == 0 {
-        nop(slot)
-    } else {
-        br(slot, imm)
-    }
 }
 
 /// The pointer by which a jump through `p` enters, if `p` is an enter pointer.
