@@ -1,6 +1,7 @@
-use Rattle.std.proofs.Common.{◌≡◌, nat_eq, take, refl, sym, ap, ◌∙◌, subst, arith}
-use Rattle.mm_explore.specs.{declared.search.Search.Search, Findings.Extension, FoundLists.{IsAt, led_by}}
-use Rattle.mm_explore.specs.Searching.{schedule_at, turns_before, turns_from}
+use Rattle.std.proofs.Common.{◌≡◌, ◌++◌, ◌∷◌, [], ℕ, take, refl, sym, ap, ◌∙◌, subst, arith, slice_index_or}
+use Rattle.mm_explore.specs.declared.{findings.Findings.Findings, search.Search.Search}
+use Rattle.mm_explore.specs.{Findings.{Extension, turn_at}, FoundLists.{IsAt, led_by}, Noting.Noted, Searching.Met}
+use Rattle.mm_explore.specs.Searching.{Ended, schedule_at, turns_before, turns_from}
 use Rattle.mm_explore.proofs.Steps.{makes_child, makes_none, ended_as, item_is, list_few, get_inside}
 use Rattle.mm_explore.proofs.search.Search.make.Goals as goal
 
@@ -22,8 +23,13 @@ turn-requires-clause-inside c = c.requires.within.inside
 pub meet-requires : goal.meet-requires
 meet-requires c =
     let s = c.args.self.now in
+    let now = c.turn.new.self in
     let w = c.requires.within in
-    let rest = c.turn.ensures.rest in
+    let found : now.found ≡ s.found = ap (λ (z : Search). z.found) c.in_ok-made.ensures.rest in
+    let limit : now.limit ≡ s.limit = ap (λ (z : Search). z.limit) c.in_ok-made.ensures.rest in
+    let inside = w.inside in
+    let long = ap length found in
+    let room = w.come.room in
     record {
       at = ?;
       from = ?;
@@ -31,18 +37,7 @@ meet-requires c =
     }
 
 pub returns-in_ok-push-in-Some : goal.returns-in_ok-push-in-Some
-returns-in_ok-push-in-Some c =
-    let s = c.args.self.now in
-    let i = c.args.img.now in
-    let w = c.requires.within in
-    let t = schedule_at s c.args.at in
-    let m = c.index.result.now in
-    let x : Extension = record { schedule = t; item = m } in
-    let is = item_is s.moves.items c.args.k m c.requires.inside c.index.ensures in
-    let noted = c.in_ok-note.ensures.noted i s.found (turns_before i s.found c.args.at c.args.k) x w.come.noted
-    (record { schedule = get_inside s.found c.args.at [] w.inside; item = refl }) c.in_ok-made.ensures.made.step c.in_ok-made.ensures.made.group in
-    let ended = ended_as i s.found (take c.args.at s.found) s.findings c.note.new.self (λ ends h. c.in_ok-note.ensures.ends i s.found ends h) w.come.ended in
-    ?
+returns-in_ok-push-in-Some c = ?
 
 pub returns-in-None : goal.returns-in-None
 returns-in-None c = ?
