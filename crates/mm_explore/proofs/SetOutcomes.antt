@@ -68,7 +68,7 @@ unfolding run
 run_then s [] ys = refl
 run_then s (x ∷ xs) ys = run_then (after s x) xs ys
 
-output_alike : (s t : State) (g : ℕ) → Rattle.mm_explore.specs.Configurations.configuration s ≡ Rattle.mm_explore.specs.Configurations.configuration t → output_of s.core g ≡ output_of t.core g
+output_alike : (s t : State) (g : ℕ) → Rattle.mm_config.specs.Configurations.configuration s ≡ Rattle.mm_config.specs.Configurations.configuration t → output_of s.core g ≡ output_of t.core g
 output_alike s t g e = let h = same_outputs s t (g ∷ []) e in cc
 
 -- 2. Members of a closed set.

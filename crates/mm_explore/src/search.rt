@@ -277,8 +277,8 @@ impl Search {
             from: at as u32,
             item: self.moves[k],
         };
-        let made = self.turn(img, at, origin.item)?;
-        self.findings.note(&made, origin)?;
+        let Made { step, group } = self.turn(img, at, origin.item)?;
+        self.findings.note(&Made { step, group }, origin)?;
         match self.meet(img, origin)? {
             Some(child) => {
                 self.children.push(child)?;

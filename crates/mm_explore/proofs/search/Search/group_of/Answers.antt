@@ -7,4 +7,4 @@ pub returns-in-Some : goal.returns-in-Some
 returns-in-Some c = λ i v h.
     let is : Some c.in-Some.slot.now ≡ slot_at v.machine.core c.args.number =
     sym (ap option_copied c.in-Some.is) ∙ c.slot.ensures ∙ ap (λ (k : Core). slot_at k c.args.number) (c.core.ensures i v h) in
-    let h = c.slot-in-Some in ?
+    ap (λ (s : Slot). s.group) c.slot-in-Some.view_is ∙ ap group_of is

@@ -15,5 +15,5 @@ returns-clause-within c =
     let there = is_put i list c.put.new.self c.args.at c.requires.inside (c.in_ok-put.ensures i _ c.requires.before.kept.stands) in
     let read = moves_read i (schedule_at s c.args.at) c.core.result.now (c.core.ensures i _ there) in
     none_made i s _ c.args.at c.requires.before c.requires.inside (is_kept i list (schedule_at s c.args.at) c.put.new.self there) refl
-    (c.in_ok-put_moves.ensures ∙ ap (λ l. l ++ moves_in c.core.result.now.split (slots_of c.core.result.now)) c.clear.ensures ∙ read)
-    c.clear-2.ensures
+    (c.in_ok-put_moves.ensures ∙ ap (λ l. l ++ moves_in c.core.result.now.split (slots_of c.core.result.now)) c.clear.ensures.items ∙ read)
+    c.clear-2.ensures.items
