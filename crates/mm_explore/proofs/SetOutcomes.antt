@@ -219,7 +219,3 @@ outcome_slots i img t o h = standings_long i t 0 (slots_at i t) o.slots h.slots 
 
 pub outcome_outputs : (i : Image) (t : List ℕ) (o : Outcome) → IsOutcome i t o → length o.outputs ≡ length (groups_of (start i).core)
 outcome_outputs i t o h = ap length h.outputs ∙ Rattle.std.proofs.lemmas.List.length-map (groups_of (start i).core) (output_of (run (start i) t).core)
-
--- the ending of what is final, or endless
-pub final_not_endless : (i : Image) (t : List ℕ) (o : Outcome) → IsOutcome i t o → IsFinal i t → o.ending ≡ Endless → ⊥
-final_not_endless i t o h final e = (subst (IsEnding i t) e h.ending).1 final

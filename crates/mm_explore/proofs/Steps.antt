@@ -503,10 +503,6 @@ ended_one i list past t o f g e final is noted = record {
 pub item_is : (xs : List ℕ) (k x : ℕ) → k < length xs → x ≡ slice_index_or xs k x → x ≡ slice_index_or xs k 0
 item_is xs k x lt e = e ∙ at_any xs k 0 x lt
 
-pub if_more : {A E : Type 0} {P Q : A → Type 0} (r : Result A E) → ((x : A) → P x → Q x) → IfOk r P → IfOk r Q
-if_more (Ok x) f h = f x h
-if_more (Err e) f h = tt
-
 -- 7. All moves of a node.
 
 pub stay_more : (i : Image) (t : List ℕ) (ms : List ℕ) (m : ℕ) (stay stays : Bool) → Contains (moves (run (start i) t))
@@ -733,17 +729,3 @@ module _ (i : Image) (s : Search) (o : Origin) (at : IsAt i s.found (led_by s.fo
     child = ap (λ (n : ℕ). Some n) at_end;
     rest = refl;
   }
-
--- 10. What calls answer.
-
-pub both_ok : {A E : Type 0} (P Q : Type 0) (r : Result A E) → OnOk r P → OnOk r Q → OnOk r (P × Q)
-both_ok P Q (Ok x) p q = (p, q)
-both_ok P Q (Err e) p q = tt
-
--- a list is empty
-pub none_so : (b : Bool) (xs ys : List ℕ) → xs ≡ ys → b ≡ (length xs == 0) → b ≡ are_none ys
-none_so b xs ys e h = h ∙ by xs ∙ ap are_none e
-  where
-    by : (zs : List ℕ) → (length zs == 0) ≡ are_none zs
-    by [] = refl
-    by (z ∷ zs) = eqb-suc-zero (length zs)

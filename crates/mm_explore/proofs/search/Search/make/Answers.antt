@@ -78,8 +78,10 @@ returns-in_ok-push-in-Some c =
     (λ h. c.in_ok-note.ensures.noted i s.found (turns_before i s.found at k) x h (record { schedule = get_inside s.found at [] w.inside; item = refl }) made.step made.group) in
     let ended = ended_there i s at k w m is c.turn.new.self rest f (λ ends h. c.in_ok-note.ensures.ends i s.found ends h) in
     let met = met_there i s at k w m is c.turn.new.self rest f c.in_ok-child.field-0 c.meet.new.self c.in_ok-child.ensures in
-    makes_child i s at k w c.requires.inside c.turn.new.self.configs f c.meet.new.self c.in_ok-child.field-0 noted ended met
-    c.in-Some.child c.in-Some.is c.push.new.self c.in_ok-push-in-Some.ensures.items (nat_eq c.in-Some.child at) refl
+    record {
+      makes = makes_child i s at k w c.requires.inside c.turn.new.self.configs f c.meet.new.self c.in_ok-child.field-0 noted ended met
+          c.in-Some.child c.in-Some.is c.push.new.self c.in_ok-push-in-Some.ensures.items (nat_eq c.in-Some.child at) refl;
+    }
 
 pub returns-in-None : goal.returns-in-None
 returns-in-None c =
@@ -98,4 +100,4 @@ returns-in-None c =
     (λ h. c.in_ok-note.ensures.noted i s.found (turns_before i s.found at k) x h (record { schedule = get_inside s.found at [] w.inside; item = refl }) made.step made.group) in
     let ended = ended_there i s at k w m is c.turn.new.self rest f (λ ends h. c.in_ok-note.ensures.ends i s.found ends h) in
     let met = met_there i s at k w m is c.turn.new.self rest f c.in_ok-child.field-0 c.meet.new.self c.in_ok-child.ensures in
-    makes_none i s at k w c.requires.inside c.turn.new.self.configs f c.meet.new.self c.in_ok-child.field-0 noted ended met c.in-None.is
+    record { makes = makes_none i s at k w c.requires.inside c.turn.new.self.configs f c.meet.new.self c.in_ok-child.field-0 noted ended met c.in-None.is }
