@@ -16,6 +16,7 @@ pub mod NextState
 pub mod OwnCells
 pub mod NotedRest
 pub mod NotedWhole
+pub mod ChangedLeaves
 pub mod ReadSlots
 pub mod ReadQueues
 pub mod StartNames

@@ -1,15 +1,16 @@
 -- Pages that are put, change by change.
-use Rattle.std.proofs.Common.{◌≡◌, ◌≢◌, ◌⊎◌, inl, inr, ℕ, zero, suc, ◌+◌, ◌<◌, ◌≤◌, ◌^◌, Bool, true, false, not, ◌&&◌, nat_lt, List, [], ◌∷◌, length, slice_get, slice_index_or, slice_set, Option, Some, None, is_some}
+use Rattle.std.proofs.Common.{◌≡◌, ◌≢◌, ◌⊎◌, inl, inr, ℕ, zero, suc, ◌+◌, ◌<◌, ◌≤◌, ◌^◌, Bool, true, false, not, ◌&&◌, nat_lt, List, [], ◌∷◌, length, slice_get, slice_index_or, slice_set, Option, Some, None, is_some, cond}
 use Rattle.std.proofs.Common.{refl, sym, ap, ◌∙◌, subst, arith, T}
-use Rattle.std.proofs.lemmas.{Bool.{cases_eq, cases_lt, lt-ltb}, Cmp.nat_cmp_total, List.{get_or-set_same, get_or-set_other, get_or_past}, Option.slice_get_within}
-use Rattle.std.specs.{Ordering.nat_cmp, List.AllByRecursion, FinMap.{find, is_sorted, nat_cmp-IsAntisymmetric}, FinMap.Entries.same_entries}
+use Rattle.std.proofs.lemmas.{Bool.{cases_eq, cases_lt, lt-ltb, Decides.nat_tests}, Cmp.nat_cmp_total, List.{get_or-set_same, get_or-set_other, get_or_past}, Option.slice_get_within}
+use Rattle.std.specs.{Ordering.{nat_cmp, ord_max, is_lt}, declared.cmp.Ordering.{Ordering, TheVariants.{Less, Equal, Greater}}, List.AllByRecursion, FinMap.{find, is_sorted, nat_cmp-IsAntisymmetric}, FinMap.Entries.same_entries}
 use Rattle.mm_word.specs.declared.word.Cell.{Cell}
 use Rattle.mm_model.specs.Memory.{Memory, page_at, is_mapped, can_map, IsPage, IsPaged}
 use Rattle.mm_mem.specs.Plain.{Plain}
-use Rattle.mm_pairs.{specs.{Named.{HasGrown, IsNameOf}, Trees.{changed, leaves}}, proofs.Names.length_leaves}
+use Rattle.mm_pairs.{specs.{Named.{HasGrown, IsNameOf}, Trees.{changed, leaves}}, proofs.Names.{length_leaves, grown_twice, tree_stays}}
+use Rattle.std.proofs.Math.Seq.{take-length}
 use Rattle.mm_config.specs.declared.{store.Store.Store, names.Names.Names, put_memory.Changes.Changes}
-use Rattle.mm_config.specs.{Naming.{AreMemoryNames, IsPageName, IsOrNone, leaf_at, page_name}, Noting.{HasMoreCells, IsSameTree}, Places.page_place, Putting.{IsOnWay, HasPages, HasPut, CanPut, IsPutSoFar, old_pages, new_pages}}
-use Rattle.mm_config.proofs.{NamedOnce.{pages_tell, not_none}, PageLists.{fewer_by_one, find_later}, Placing.place_tells, Noted.{or_none, still_more}, PageTrees.leaf_stays}
+use Rattle.mm_config.specs.{Naming.{AreMemoryNames, IsPageName, IsOrNone, leaf_at, page_name}, Noting.{HasMoreCells, IsSameTree}, Places.{page_place, HaveOnePlace}, Putting.{IsOnWay, HasPages, HasPut, CanPut, IsPutSoFar, old_pages, new_pages}}
+use Rattle.mm_config.proofs.{NamedOnce.{pages_tell, not_none}, PageLists.{fewer_by_one, find_later, less_means, equal_means}, Placing.place_tells, Noted.{or_none, still_more, memory_more}, PageCells.more_pairs, PageTrees.leaf_stays}
 use Rattle.mm_config.proofs.Walks.{change_is, change_at, begins, made, same_way, arrived, up_to}
 
 -- 1. Names of pages.
@@ -254,6 +255,30 @@ module _ (k : Store) (c : Changes) (old : Plain) (can : CanPut k old c) where
         let room = lt-ltb (length new.memory.pages) new.memory.frames (omega (arith, less, fit, frames, now)) in
         ap (λ (o : Option (List Cell)). not (is_some o) && nat_lt (length new.memory.pages) new.memory.frames) absent ∙ room
 
+  page_wanted : (o : Option (List Cell)) (name : ℕ) → name ≢ 0 → IsOrNone (IsPageName k) o name → (cells : List Cell) × IsPageName k cells name
+  page_wanted None name some h = absurd (some h)
+  page_wanted (Some cells) name some h = (cells, h)
+
+  -- what putting a page asks
+  pub record MayPut (new : Plain) (number before page : ℕ) : Type 0 where
+    pub number : number < 2 ^ 42
+    pub known : IsOrNone (IsPageName k) (page_at new.memory number) before
+    pub room : before ≡ 0 → can_map new.memory number ≡ true
+    pub wanted : (cells : List Cell) × IsPageName k cells page
+
+  pub may_put : (n : ℕ) (new : Plain) (so : IsPutSoFar k c (λ index name. (name ≡ 0) ⊎ (index < n)) old new) (e : ℕ × ℕ) (got : slice_get c.list.now n ≡ Some e) → e.1 ≢ 0 → IsPaged new.memory
+      → (number before : ℕ) → number ≡ slice_index_or k.pages e.0 0 → before ≡ slice_index_or was e.0 0 → MayPut new number before e.1
+  may_put n new so e got some paged number before is from =
+      let page = page_of_change n e got in
+      let at : slice_index_or names (page_place k.pages (slice_index_or k.pages e.0 0)) 0 ≡ e.1 = ap (λ p. slice_index_or names p 0) page.place ∙ sym page.name in
+      let known = not_yet (λ index name. (name ≡ 0) ⊎ (index < n)) (λ index name. ⊥) new so n e got (not_made n new so e got some) in
+      record {
+        number = subst (λ q. q < 2 ^ 42) (sym is) page.small;
+        known = subst (λ q. IsOrNone (IsPageName k) (page_at new.memory q) before) (sym is) (subst (IsOrNone (IsPageName k) (page_at new.memory (slice_index_or k.pages e.0 0))) (sym from) known);
+        room = λ none. subst (λ q. can_map new.memory q ≡ true) (sym is) (has_frame n new so e got some (sym from ∙ none) paged);
+        wanted = page_wanted (page_at can.wanted (slice_index_or k.pages e.0 0)) e.1 some (subst (IsOrNone (IsPageName k) (page_at can.wanted (slice_index_or k.pages e.0 0))) at (can.names.pages (slice_index_or k.pages e.0 0)));
+      }
+
   -- 5. All changes are made.
 
   pub all_put : (D : ℕ → ℕ → Type 0) (new : Plain) → IsPutSoFar k c D old new → ((j : ℕ) (e : ℕ × ℕ) → slice_get c.list.now j ≡ Some e → D j e.1) → IsPaged new.memory
@@ -281,3 +306,51 @@ raised_pages k k2 mid m n height tree h raised grown more = record {
 
     same : (p : ℕ) → leaf_at k2.pairs height tree p ≡ leaf_at k.pairs n.height n.pages p
     same p = leaf_stays mid k2.pairs grown height tree raised.inner p ∙ raised.leaves p
+
+-- 7. What putting asks and leaves, where both trees are made as deep as one of them.
+
+pub max_of : (a b n : ℕ) → n ≡ ord_max nat_cmp a b → (a ≤ n) × (b ≤ n) × ((n ≡ a) ⊎ (n ≡ b))
+max_of a b n e = by (nat_cmp b a) refl e
+  where
+    by : (o : Ordering) → nat_cmp b a ≡ o → n ≡ cond (is_lt o) a b → (a ≤ n) × (b ≤ n) × ((n ≡ a) ⊎ (n ≡ b))
+    by Less is e = let lt = less_means b a is in (omega (arith, e), omega (arith, e, lt), inl e)
+    by Equal is e = let same = equal_means b a is in (omega (arith, e, same), omega (arith, e), inr e)
+    by Greater is e = let lt : a < b = grind (arith, nat_tests) in (omega (arith, e, lt), omega (arith, e), inr e)
+
+module _ (k : Store) (old : Plain) (was wanted : Names) (c : Changes) (p1 p2 : List (ℕ × ℕ)) (own : AreMemoryNames k old.memory was)
+    (one : IsSameTree k.pairs was p1 (record was { height = c.height; pages = c.before })) (two : IsSameTree p1 wanted p2 (record wanted { height = c.height; pages = c.after })) where
+  abbrev k1 : Store
+  k1 = record k { pairs = p1 }
+
+  abbrev k2 : Store
+  k2 = record k { pairs = p2 }
+
+  pub more_trees : HasMoreCells k k2
+  more_trees = more_pairs k p2 (grown_twice k.pairs p1 p2 one.grown two.grown)
+
+  pages_before : HasPages k2 old.memory (leaves p2 c.height c.before)
+  pages_before = raised_pages k k2 p1 old.memory was c.height c.before own one two.grown more_trees
+
+  pages_after : (m : Memory) → AreMemoryNames k m wanted → HasPages k2 m (leaves p2 c.height c.after)
+  pages_after m h = raised_pages k1 k2 p2 m wanted c.height c.after (memory_more k k1 (more_pairs k p1 one.grown) m wanted h) two (take-length p2) (more_pairs k1 p2 two.grown)
+
+  pub can_put : c.height ≤ 32 → c.list.now ≡ changed 0 (leaves p2 c.height c.before) (leaves p2 c.height c.after) → HaveOnePlace k.pages → IsPaged old.memory
+      → (m : Memory) → IsPaged m → m.frames ≡ old.memory.frames → AreMemoryNames k m wanted → CanPut k2 old c
+  can_put few list places paged m whole frames named = record {
+    before = tree_stays p1 p2 two.grown c.height c.before one.inner;
+    after = two.inner;
+    few = few;
+    list = list;
+    places = places;
+    was = pages_before;
+    paged = paged;
+    wanted = m;
+    whole = whole;
+    frames = frames;
+    names = pages_after m named;
+  }
+
+  pub put_is : CanPut k2 old c → (new : Plain) → IsPutSoFar k2 c (λ index name. index < length c.list.now) old new → IsPaged new.memory
+      → (m : Memory) → IsPaged m → m.frames ≡ old.memory.frames → AreMemoryNames k m wanted → new.memory ≡ m
+  put_is can new so paged m whole frames named =
+      all_put k2 c old can (λ index name. index < length c.list.now) new so (λ j e got. slice_get_within c.list.now j e got) paged m whole frames (pages_after m named)
