@@ -5,6 +5,7 @@ pub mod Taking
 pub mod Masks
 pub mod EventForms
 pub mod States
+pub mod Reached
 pub mod Zips
 pub mod Keys
 pub mod Staying
@@ -19,6 +20,7 @@ pub mod NotedWhole
 pub mod ChangedLeaves
 pub mod ReadSlots
 pub mod ReadQueues
+pub mod ReadOutputs
 pub mod StartNames
 pub mod Rising
 pub mod ChangedOutputs

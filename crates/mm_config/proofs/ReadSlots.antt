@@ -1,21 +1,17 @@
 -- Reading the slots whose names differ.
-use Rattle.std.proofs.Common.{◌≡◌, ◌≢◌, ◌⊎◌, inl, inr, ℕ, zero, suc, ◌+◌, ◌*◌, ◌%◌, ◌<◌, ◌≤◌, ◌^◌, Bool, true, false, List, [], ◌∷◌, map, length, slice_get, slice_set, slice_index_or, bit_or, if◌then◌else◌, Option, Some, refl, sym, ap, ◌∙◌, subst, arith, eqb}
+use Rattle.std.proofs.Common.{◌≡◌, ◌⊎◌, inl, inr, ℕ, zero, suc, ◌+◌, ◌*◌, ◌%◌, ◌<◌, ◌≤◌, ◌^◌, Bool, true, false, List, [], ◌∷◌, map, length, slice_get, slice_set, slice_index_or, bit_or, if◌then◌else◌, Option, Some, refl, sym, ap, ◌∙◌, subst, arith, eqb}
 use Rattle.std.proofs.lemmas.{Bool.{cases_eq, cases_lt}, List.{get_or-set_same, get_or-set_other, get_or-map, length-map, length-set}}
-use Rattle.std.proofs.lemmas.{Option.{slice_get-get_or, slice_get_past, slice_get_within}, Nat.Bits.{bit_at_set_same, bit_at_set_other}}
-use Rattle.std.specs.{Prelude.zip, List.AllByRecursion, Int.w64}
+use Rattle.std.proofs.lemmas.{Option.slice_get_within, Nat.Bits.{bit_at_set_same, bit_at_set_other}}
+use Rattle.std.specs.{Prelude.zip, Int.w64}
 use Rattle.mm_model.specs.{Slot.Slot, Image.Image, Flags.flags, State.{ThreadRow, Core, State}, Fits.{slots_of, identity_of}, Spelling.IsImage}
 use Rattle.mm_model.proofs.{Bytes.Bitmaps.length-flags, CoreRows.each_get}
 use Rattle.mm_thread.specs.SlotIndices.{no_slot, no_row, slot_in}
-use Rattle.mm_thread.proofs.{FlagSets.flags-one, Revised.slots_many}
-use Rattle.mm_pairs.specs.{Named.IsNameOf, Trees.{leaves, changed}}
-use Rattle.mm_pairs.proofs.Names.{length_leaves}
-use Rattle.mm_config.specs.declared.configs.Configs as code
-use Rattle.mm_config.specs.declared.{store.Store.Store, names.Names.Names}
-use Rattle.mm_config.specs.{Configurations.{uncounted_slot, uncounted, configuration}, Forms.{slot_form, slot_from}, Keeping.IsConfigurationOf}
-use Rattle.mm_config.specs.Reaching.{KeepsAll, SlotsSoFar, HasReadSlots}
-use Rattle.mm_config.specs.Naming.{AreNamesOf, AreLeaves, IsOrNone, IsSlotName, leaf_at}
-use Rattle.mm_config.proofs.{Walks.{change_is, change_at, up_to}, Keepables.{IsKeepablePair, slots_kept}, SlotForms.{IsKeepable, slot_read, form_tells}}
-use Rattle.mm_config.proofs.{NotedTurn.{zip_get, zip_long, slots_at, slots_long}, Turned.bare_core}
+use Rattle.mm_thread.proofs.FlagSets.{flags-one}
+use Rattle.mm_pairs.specs.{Named.named, Trees.{leaves, changed}}
+use Rattle.mm_config.specs.declared.{configs.Configs as code, store.Store.Store, names.Names.Names}
+use Rattle.mm_config.specs.{Configurations.{uncounted_slot, uncounted_row, configuration}, Forms.{slot_form, slot_from}, Keeping.IsConfigurationOf}
+use Rattle.mm_config.specs.{Reaching.{Reaches, KeepsAll, SlotsSoFar, HasReadSlots}, Naming.IsSlotName}
+use Rattle.mm_config.proofs.{ChangedLeaves.{leaf_named, entry, left}, Reached.{slots_rows, pair_count, pair_at}, Walks.up_to, Keepables.{IsKeepablePair, slots_kept}, SlotForms.{IsKeepable, slot_read, form_tells}}
 
 -- a flag that is set
 pub flags_set : (k n r : ℕ) → k ≤ 64 → r < k → flags k (bit_or n (1 * 2 ^ r % 2 ^ 64)) ≡ slice_set (flags k n) r true
@@ -23,98 +19,87 @@ flags_set k n r few lt =
     flags-one k (bit_or n (1 * 2 ^ r % 2 ^ 64)) n r true lt (ap (λ c. eqb c 1) (bit_at_set_same w64 n r (omega (arith, few, lt)))) (λ i small other.
     bit_at_set_other w64 n r (omega (arith, few, lt)) i other)
 
--- 1. A configuration's slots by their names.
+abbrev pub slot_changes : Names → code.Configs → List (ℕ × ℕ)
+slot_changes wanted c = changed 0 (leaves c.store.pairs c.depth c.names.slots) (leaves c.store.pairs c.depth wanted.slots)
 
-module _ (i : Image) (s : State) (depth : ℕ) (k : Store) (n : Names) (img : IsImage i) (config : IsConfigurationOf i s) (names : AreNamesOf i.slots depth k s n) where
-  pub as_many : length i.slots ≡ length s.core.rows
-  as_many = slots_many i.slots s.core (sym config.state.fits.same_slots)
+-- 1. The slots of a configuration.
 
-  pairs_long : length (zip i.slots (slots_of s.core)) ≡ length i.slots
-  pairs_long = zip_long i.slots (slots_of s.core) (as_many ∙ sym (slots_long s.core))
-
-  pair_at : (p : ℕ) → p < length i.slots → slice_index_or (zip i.slots (slots_of s.core)) p (no_slot, no_slot) ≡ (slice_index_or i.slots p no_slot, slot_in s.core p)
-  pair_at p lt =
-      let rows = slots_long s.core in
-      zip_get i.slots (slots_of s.core) p lt (omega (arith, lt, as_many, rows)) ∙ ap (λ x. (slice_index_or i.slots p no_slot, x)) (slots_at s.core p (omega (arith, lt, as_many)))
-
-  pub name_at : (p : ℕ) → p < length i.slots → IsSlotName k (slice_index_or i.slots p no_slot) (slot_in s.core p) (leaf_at k.pairs depth n.slots p)
-  name_at p lt =
-      let there = subst (λ o. IsOrNone (λ (x : Slot × Slot) name. IsSlotName k x.0 x.1 name) o (leaf_at k.pairs depth n.slots p))
-      (slice_get-get_or (zip i.slots (slots_of s.core)) p (no_slot, no_slot) (omega (arith, lt, pairs_long))) (names.slots.each p) in
-      subst (λ (x : Slot × Slot). IsSlotName k x.0 x.1 (leaf_at k.pairs depth n.slots p)) (pair_at p lt) there
-
-  pub none_past : (p : ℕ) → length i.slots ≤ p → leaf_at k.pairs depth n.slots p ≡ 0
-  none_past p high =
-      subst (λ o. IsOrNone (λ (x : Slot × Slot) name. IsSlotName k x.0 x.1 name) o (leaf_at k.pairs depth n.slots p))
-      (slice_get_past (zip i.slots (slots_of s.core)) p (omega (arith, high, pairs_long))) (names.slots.each p)
-
-  pub bare_at : (p : ℕ) → p < length i.slots → uncounted_slot (slot_in s.core p) ≡ slot_in s.core p
+module _ (i : Image) (s : State) (img : IsImage i) (config : IsConfigurationOf i s) where
+  bare_at : (p : ℕ) → p < length i.slots → uncounted_slot (slot_in s.core p) ≡ slot_in s.core p
+  unfolding configuration
   bare_at p lt =
-      sym (ap (λ (row : ThreadRow). row.slot) (get_or-map Rattle.mm_config.specs.Configurations.uncounted_row s.core.rows p no_row no_row (omega (arith, lt, as_many))))
-      ∙ ap (λ (core : Core). slot_in core p) (bare_core s config.bare)
+      let many = slots_rows i s config in
+      sym (ap (λ (row : ThreadRow). row.slot) (get_or-map uncounted_row s.core.rows p no_row no_row (omega (arith, lt, many))))
+      ∙ ap (λ (x : State). slot_in x.core p) config.bare
 
-  keepable_at : (p : ℕ) → p < length i.slots → IsKeepable (slice_index_or i.slots p no_slot) (uncounted_slot (slot_in s.core p))
-  keepable_at p lt =
-      subst IsKeepablePair (pair_at p lt)
-      (each_get IsKeepablePair (zip i.slots (slots_of s.core)) p (no_slot, no_slot) (slots_kept i s img config.state) (omega (arith, lt, pairs_long)))
-
-  pub keeps_at : (p : ℕ) → p < length i.slots → IsKeepable (slice_index_or i.slots p no_slot) (slot_in s.core p)
-  keeps_at p lt = subst (IsKeepable (slice_index_or i.slots p no_slot)) (bare_at p lt) (keepable_at p lt)
+  keeps_at : (p : ℕ) → p < length i.slots → IsKeepable (slice_index_or i.slots p no_slot) (slot_in s.core p)
+  keeps_at p lt =
+      let all = pair_count i s config in
+      subst (IsKeepable (slice_index_or i.slots p no_slot)) (bare_at p lt)
+      (subst IsKeepablePair (pair_at i s config p lt) (each_get IsKeepablePair (zip i.slots (slots_of s.core)) p (no_slot, no_slot) (slots_kept i s img config.state) (omega (arith, lt, all))))
 
   -- what is read of its form is the slot
-  pub slot_back : (p : ℕ) → p < length i.slots → slot_from (slice_index_or i.slots p no_slot) (slot_form (slice_index_or i.slots p no_slot) (slot_in s.core p)) ≡ slot_in s.core p
+  slot_back : (p : ℕ) → p < length i.slots → slot_from (slice_index_or i.slots p no_slot) (slot_form (slice_index_or i.slots p no_slot) (slot_in s.core p)) ≡ slot_in s.core p
   slot_back p lt = slot_read (slice_index_or i.slots p no_slot) (slot_in s.core p) (keeps_at p lt) ∙ bare_at p lt
 
--- 2. Another configuration's.
+-- 2. Each change is to a slot that is wanted.
 
-module _ (i : Image) (a s : State) (depth : ℕ) (k : Store) (n m : Names) (img : IsImage i) (ca : IsConfigurationOf i a) (cs : IsConfigurationOf i s)
-    (na : AreNamesOf i.slots depth k a n) (ns : AreNamesOf i.slots depth k s m) where
-  abbrev was : List ℕ
-  was = leaves k.pairs depth n.slots
+abbrev IsPairName : Store → Slot × Slot → ℕ → Type 0
+IsPairName k x name = IsSlotName k x.0 x.1 name
 
-  abbrev wanted : List ℕ
-  wanted = leaves k.pairs depth m.slots
+module _ (wanted : Names) (c : code.Configs) (r : Reaches wanted c) where
+  pairs_alike : length (zip r.image.slots (slots_of r.at.machine.core)) ≡ length (zip r.image.slots (slots_of r.state.core))
+  pairs_alike = pair_count r.image r.at.machine r.stands.machine.config ∙ sym (pair_count r.image r.state r.config)
 
-  long : length was ≡ length wanted
-  long = length_leaves k.pairs depth n.slots ∙ sym (length_leaves k.pairs depth m.slots)
-
+  -- a change, and the slot that is wanted at its place
   pub record SlotEntry (e : ℕ × ℕ) : Type 0 where
-    pub within : e.0 < length i.slots
-    pub name : IsSlotName k (slice_index_or i.slots e.0 no_slot) (slot_in s.core e.0) e.1
+    pub within : e.0 < length c.base.items
+    pub name : e.1 ≤ length c.store.lists
+    pub is : slot_from (slice_index_or c.base.items e.0 no_slot) (named [] c.store.lists e.1) ≡ slot_in r.state.core e.0
 
-  -- a change is to the name of a slot
-  pub slot_entry : (j : ℕ) (e : ℕ × ℕ) → slice_get (changed 0 was wanted) j ≡ Some e → SlotEntry e
+  pub slot_entry : (j : ℕ) (e : ℕ × ℕ) → slice_get (slot_changes wanted c) j ≡ Some e → SlotEntry e
   slot_entry j e got =
-      let c = change_is 0 was wanted long j e got in
-      let place : e.0 ≡ c.place = ap (λ (x : ℕ × ℕ). x.0) c.is ∙ omega arith in
-      let name : e.1 ≡ leaf_at k.pairs depth m.slots c.place = ap (λ (x : ℕ × ℕ). x.1) c.is in
-      elim (cases_lt c.place (length i.slots)) [
-        | inl lt ↦ record {
-          within = omega (arith, place, lt);
-          name = subst (λ p. IsSlotName k (slice_index_or i.slots p no_slot) (slot_in s.core p) e.1) (sym place)
-              (subst (IsSlotName k (slice_index_or i.slots c.place no_slot) (slot_in s.core c.place)) (sym name) (name_at i s depth k m img cs ns c.place lt));
-        }
-        | inr high ↦ absurd (c.differs (none_past i a depth k n img ca na c.place high ∙ sym (none_past i s depth k m img cs ns c.place high)))
-      ]
+      let i = r.image in
+      let s = r.state in
+      let h = entry (IsPairName c.store) (no_slot, no_slot) (zip i.slots (slots_of r.at.machine.core)) (zip i.slots (slots_of s.core)) c.store.pairs c.depth c.names.slots wanted.slots
+      r.stands.named.names.slots r.names.slots pairs_alike j e got in
+      let inside = h.0 in
+      let all = pair_count i s r.config in
+      let lt : e.0 < length i.slots = omega (arith, inside, all) in
+      let name = subst (λ (x : Slot × Slot). IsSlotName c.store x.0 x.1 e.1) (pair_at i s r.config e.0 lt) h.1 in
+      let base = r.stands.base in
+      record {
+        within = subst (λ (l : List Slot). e.0 < length l) (sym base) lt;
+        name = name.within;
+        is = subst (λ (l : List Slot). slot_from (slice_index_or l e.0 no_slot) (named [] c.store.lists e.1) ≡ slot_in s.core e.0) (sym base)
+            (ap (slot_from (slice_index_or i.slots e.0 no_slot)) name.is ∙ slot_back i s r.stands.image r.config e.0 lt);
+      }
 
   -- where nothing changes the slot is the same
-  pub slot_left : (p : ℕ) → p < length i.slots → ((j : ℕ) (e : ℕ × ℕ) → slice_get (changed 0 was wanted) j ≡ Some e → e.0 ≡ p → ⊥) → slot_in a.core p ≡ slot_in s.core p
-  slot_left p lt none = elim (cases_eq (slice_index_or was p 0) (slice_index_or wanted p 0)) [
-    | inl same ↦
-        let one = name_at i a depth k n img ca na p lt in
-        let two = name_at i s depth k m img cs ns p lt in
-        let forms : slot_form (slice_index_or i.slots p no_slot) (slot_in a.core p) ≡ slot_form (slice_index_or i.slots p no_slot) (slot_in s.core p) =
-        sym one.is ∙ ap (Rattle.mm_pairs.specs.Named.named [] k.lists) same ∙ two.is in
-        sym (bare_at i a depth k n img ca na p lt)
-        ∙ form_tells (slice_index_or i.slots p no_slot) (slot_in a.core p) (slot_in s.core p) (keeps_at i a depth k n img ca na p lt) (keeps_at i s depth k m img cs ns p lt) forms
-        ∙ bare_at i s depth k m img cs ns p lt
-    | inr other ↦
-        let wide = ns.slots.wide in
-        let pairs = pairs_long i s depth k m img cs ns in
-        let all = length_leaves k.pairs depth m.slots in
-        let at = change_at 0 was wanted long p (omega (arith, lt, pairs, wide, all)) other in
-        absurd (none at.0 (0 + p, slice_index_or wanted p 0) at.1 (omega arith))
-  ]
+  pub slot_left : (p : ℕ) → p < length c.base.items → ((j : ℕ) (e : ℕ × ℕ) → slice_get (slot_changes wanted c) j ≡ Some e → e.0 ≡ p → ⊥) → slot_in c.core p ≡ slot_in r.state.core p
+  slot_left p within none =
+      let i = r.image in
+      let a = r.at.machine in
+      let s = r.state in
+      let own = r.stands.machine.config in
+      let img = r.stands.image in
+      let lt = subst (λ (l : List Slot). p < length l) r.stands.base within in
+      let all_a = pair_count i a own in
+      let all_s = pair_count i s r.config in
+      let Is = IsPairName c.store in
+      let pairs_a = zip i.slots (slots_of a.core) in
+      let pairs_s = zip i.slots (slots_of s.core) in
+      let base = slice_index_or i.slots p no_slot in
+      ap (λ (k : Core). slot_in k p) r.stands.machine.core ∙ elim (left Is (no_slot, no_slot) pairs_a pairs_s c.store.pairs c.depth c.names.slots wanted.slots r.stands.named.names.slots r.names.slots pairs_alike p (omega (arith, lt, all_s))) [
+        | inl h ↦ absurd (none h.0 (p, slice_index_or (leaves c.store.pairs c.depth wanted.slots) p 0) h.1 refl)
+        | inr same ↦
+          let one = subst (λ (x : Slot × Slot). IsSlotName c.store x.0 x.1 (slice_index_or (leaves c.store.pairs c.depth c.names.slots) p 0)) (pair_at i a own p lt)
+          (leaf_named Is (no_slot, no_slot) pairs_a c.store.pairs c.depth c.names.slots r.stands.named.names.slots p (omega (arith, lt, all_a))) in
+          let two = subst (λ (x : Slot × Slot). IsSlotName c.store x.0 x.1 (slice_index_or (leaves c.store.pairs c.depth wanted.slots) p 0)) (pair_at i s r.config p lt)
+          (leaf_named Is (no_slot, no_slot) pairs_s c.store.pairs c.depth wanted.slots r.names.slots p (omega (arith, lt, all_s))) in
+          let forms : slot_form base (slot_in a.core p) ≡ slot_form base (slot_in s.core p) = sym one.is ∙ ap (named [] c.store.lists) same ∙ two.is in
+          sym (bare_at i a img own p lt) ∙ form_tells base (slot_in a.core p) (slot_in s.core p) (keeps_at i a img own p lt) (keeps_at i s img r.config p lt) forms ∙ bare_at i s img r.config p lt
+      ]
 
 -- 3. The loop.
 

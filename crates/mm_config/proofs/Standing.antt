@@ -4,18 +4,16 @@ use Rattle.std.proofs.lemmas.List.{length-map, length-take-le}
 use Rattle.std.specs.List.{AllByRecursion, AllZip}
 use Rattle.mm_model.specs.{declared.event.Event.Event, Slot.Slot, Flags.flags, Memory.Memory, Image.Image, State.{ThreadRow, Core, State, output_of}}
 use Rattle.mm_model.specs.{Fits.{slots_of, identity_of, IsCore}, Spelling.IsImage}
-use Rattle.mm_model.proofs.{Bytes.Bitmaps.length-flags, CoreRows.each_map, Fitted.core_of, Shortness.queue_short}
+use Rattle.mm_model.proofs.{Bytes.Bitmaps.length-flags, CoreRows.each_map, Shortness.queue_short}
 use Rattle.mm_thread.specs.{SlotIndices.{no_slot, slot_in, queue_in}, Revisions.{Extension, queue_in_place, queues_in, outputs_in, revised}}
-use Rattle.mm_thread.proofs.{Cores.output_short, Index.queue_found, RowIndex.{apart_in, few_rows, small_numbers}}
+use Rattle.mm_thread.proofs.{Cores.output_short, Index.queue_found, RowIndex.apart_in}
 use Rattle.mm_config.specs.declared.configs.Configs as code
 use Rattle.mm_config.specs.declared.{store.Store.Store, names.Names.Names}
 use Rattle.mm_config.specs.{Configurations.configuration, Machines.Configs, Naming.{AreNamesOf, IsRest, IsKeptOnce}, Noting.{IsKeptStill, HasMoreCells, mapped_pages}}
 use Rattle.mm_config.specs.Keeping.{IsConfigurationOf, IsKeyOf, IsMachineAt, HasNamesOf, Stands}
 use Rattle.mm_config.specs.Reaching.{HasConfiguration, Reaches, HasPutCore, KeepsAll, HasReadSlots, HasReadQueues, HasReadOutputs, IsListed, Extends}
-use Rattle.mm_config.proofs.{Keys.key_tells, Noted.still_more, Staying.{keys_stay, names_stay, rest_stays}, Revising.{LeadsTo, revised_is}}
-
-pub config_core : (i : Image) (s : State) → IsImage i → IsConfigurationOf i s → IsCore s.core
-config_core i s img h = core_of i s img h.state.state h.state.fits h.state.kept
+pub use Rattle.mm_config.proofs.Reached.config_core
+use Rattle.mm_config.proofs.{Reached.{slots_rows, own, aim, base_rows, as_many, groups, few_base}, Keys.key_tells, Noted.still_more, Staying.{keys_stay, names_stay, rest_stays}, Revising.{LeadsTo, revised_is}}
 
 -- 1. A machine stands if it is at a configuration, with its names, and if what was kept still is.
 
@@ -96,12 +94,6 @@ module _ (wanted : Names) (c0 c1 c2 c3 : code.Configs) (r : Reaches wanted c0) (
   abbrev to : Core
   to = r.state.core
 
-  own : IsCore was
-  own = config_core r.image r.at.machine r.stands.image r.stands.machine.config
-
-  aim : IsCore to
-  aim = config_core r.image r.state r.stands.image r.config
-
   core_1 : c1.core ≡ was
   core_1 = ap (λ (c : code.Configs). c.core) one.others ∙ r.stands.machine.core
 
@@ -111,15 +103,6 @@ module _ (wanted : Names) (c0 c1 c2 c3 : code.Configs) (r : Reaches wanted c0) (
   core_3 : c3.core ≡ was
   core_3 = ap (λ (c : code.Configs). c.core) three.others ∙ core_2
 
-  same_slots : map identity_of (slots_of was) ≡ map identity_of (slots_of to)
-  same_slots = r.stands.machine.config.state.fits.same_slots ∙ sym r.config.state.fits.same_slots
-
-  rows_of : (core : Core) → length (map identity_of (slots_of core)) ≡ length core.rows
-  rows_of core = length-map (slots_of core) identity_of ∙ length-map core.rows (λ (row : ThreadRow). row.slot)
-
-  as_many : length was.rows ≡ length to.rows
-  as_many = sym (rows_of was) ∙ ap length same_slots ∙ rows_of to
-
   pub room_is : map identity_of c3.slots.items ≡ map identity_of (slots_of c3.core)
   room_is =
       ap (λ s. map identity_of s.items) three.room ∙ ap (λ s. map identity_of s.items) two.room ∙ one.room ∙ r.stands.room
@@ -127,21 +110,19 @@ module _ (wanted : Names) (c0 c1 c2 c3 : code.Configs) (r : Reaches wanted c0) (
 
   many : length c3.slots.items ≡ length was.rows
   many =
-      sym (length-map c3.slots.items identity_of) ∙ ap length room_is ∙ ap (λ (k : Core). length (map identity_of (slots_of k))) core_3 ∙ rows_of was
-
-  base_many : length c0.base.items ≡ length was.rows
-  base_many =
-      ap length r.stands.base ∙ sym (length-map r.image.slots identity_of) ∙ ap length (sym r.stands.machine.config.state.fits.same_slots) ∙ rows_of was
+      let rows = slots_rows r.image r.at.machine r.stands.machine.config in
+      sym (length-map c3.slots.items identity_of) ∙ ap length (ap (λ s. map identity_of s.items) three.room ∙ ap (λ s. map identity_of s.items) two.room ∙ one.room ∙ r.stands.room)
+      ∙ length-map r.image.slots identity_of ∙ rows
 
   slots_lead : (k : ℕ) → k < length was.rows
       → (if slice_index_or (flags (length c3.slots.items) mask) k false then slice_index_or c3.slots.items k no_slot else slot_in was k) ≡ slot_in to k
   slots_lead k lt =
-      let long : length c0.base.items ≡ length c3.slots.items = base_many ∙ sym many in
+      let long : length c0.base.items ≡ length c3.slots.items = base_rows wanted c0 r ∙ sym many in
       let items : c1.slots.items ≡ c3.slots.items = ap (λ s. s.items) (sym (three.room ∙ two.room)) in
       subst (λ n. (if slice_index_or (flags n mask) k false then slice_index_or c3.slots.items k no_slot else slot_in was k) ≡ slot_in to k) long
       (subst (λ (l : List Slot). (if slice_index_or (flags (length c0.base.items) mask) k false then slice_index_or l k no_slot else slot_in was k) ≡ slot_in to k) items
       (subst (λ (core : Core). (if slice_index_or (flags (length c0.base.items) mask) k false then slice_index_or c1.slots.items k no_slot else slot_in core k) ≡ slot_in to k)
-      r.stands.machine.core (one.slots k (omega (arith, base_many, lt)))))
+      r.stands.machine.core (one.slots k (omega (arith, base_rows wanted c0 r, lt)))))
 
   abbrev Queued : ℕ × List Event → Type 0
   Queued x = (x.0 < length was.rows) × (x.1 ≡ queue_in to x.0)
@@ -156,8 +137,8 @@ module _ (wanted : Names) (c0 c1 c2 c3 : code.Configs) (r : Reaches wanted c0) (
 
   leads : LeadsTo was to (flags (length c3.slots.items) mask) c3.slots.items (queues_in c3.revision) (outputs_in c3.revision)
   leads = record {
-    rows = as_many;
-    groups = own.formed.outputs ∙ sym aim.formed.outputs;
+    rows = as_many wanted c0 r;
+    groups = groups wanted c0 r;
     version = r.stands.machine.config.state.fits.version ∙ sym r.config.state.fits.version;
     split = r.stands.machine.config.state.fits.split ∙ sym r.config.state.fits.split;
     flags = length-flags (length c3.slots.items) mask ∙ many;
@@ -180,29 +161,29 @@ module _ (wanted : Names) (c0 c1 c2 c3 : code.Configs) (r : Reaches wanted c0) (
       ∙ revised_is was to (flags (length c3.slots.items) mask) c3.slots.items (queues_in c3.revision) (outputs_in c3.revision) leads
 
   pub whole : IsCore (revised c3.core (flags (length c3.slots.items) mask) c3.slots.items (queues_in c3.revision) (outputs_in c3.revision))
-  whole = subst IsCore (sym core_is) aim
+  whole = subst IsCore (sym core_is) (aim wanted c0 r)
 
   pub few_slots : length c3.slots.items ≤ 64
-  few_slots = let few = few_rows was own.formed.rising (small_numbers was own) in omega (arith, many, few)
+  few_slots = let few = few_base wanted c0 r in let base = base_rows wanted c0 r in omega (arith, many, few, base)
 
   short_queue : (k : ℕ) → k < length to.rows → length (queue_in to k) ≤ 64
   short_queue k lt =
-      subst (λ (q : List Event). length q ≤ 64) (queue_found to (apart_in to aim) k lt) (queue_short to aim.matched (slot_in to k).number aim.formed)
+      subst (λ (q : List Event). length q ≤ 64) (queue_found to (apart_in to (aim wanted c0 r)) k lt) (queue_short to (aim wanted c0 r).matched (slot_in to k).number (aim wanted c0 r).formed)
 
   pub short_queues : AllByRecursion (λ (x : ℕ × List Event). (x.0 < length c3.slots.items) × (length x.1 ≤ 64)) (queues_in c3.revision)
   short_queues = each_map Queued (λ (x : ℕ × List Event). (x.0 < length c3.slots.items) × (length x.1 ≤ 64)) (λ x h.
       let inside = h.0 in
-      (omega (arith, many, inside), subst (λ (q : List Event). length q ≤ 64) (sym h.1) (short_queue x.0 (omega (arith, as_many, inside)))))
+      (omega (arith, many, inside), subst (λ (q : List Event). length q ≤ 64) (sym h.1) (short_queue x.0 (omega (arith, as_many wanted c0 r, inside)))))
       (queues_in c3.revision) queued
 
   pub short_outputs : AllByRecursion (λ (x : Extension). (x.group < 64) × (x.kept + length x.bytes ≤ 65536)) (outputs_in c3.revision)
   short_outputs = each_map (Extends was to) (λ (x : Extension). (x.group < 64) × (x.kept + length x.bytes ≤ 65536)) (λ x e.
       let inside = e.inside in
-      let groups = own.formed.outputs in
+      let groups = (own wanted c0 r).formed.outputs in
       let cut : length (take x.kept (output_of was x.group)) ≡ x.kept = length-take-le x.kept (output_of was x.group) e.kept in
       let both = length-append (take x.kept (output_of was x.group)) x.bytes in
       let all = ap length e.is in
-      let short = output_short to aim x.group in
+      let short = output_short to (aim wanted c0 r) x.group in
       (omega (arith, inside, groups), omega (arith, cut, both, all, short)))
       (outputs_in c3.revision) extended
 
