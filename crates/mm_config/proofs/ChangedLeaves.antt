@@ -19,8 +19,9 @@ module _ {A : Type 0} (Is : A → ℕ → Type 0) (d : A) (xs ys : List A) (pair
   long : length (leaves pairs depth n) ≡ length (leaves pairs depth m)
   long = length_leaves pairs depth n ∙ sym (length_leaves pairs depth m)
 
-  -- a change is to the name of what is at its place
-  pub entry : (j : ℕ) (e : ℕ × ℕ) → slice_get (changed 0 (leaves pairs depth n) (leaves pairs depth m)) j ≡ Some e → (e.0 < length ys) × Is (slice_index_or ys e.0 d) e.1
+  -- a change is to the name of what is at its place, from another
+  pub entry : (j : ℕ) (e : ℕ × ℕ) → slice_get (changed 0 (leaves pairs depth n) (leaves pairs depth m)) j ≡ Some e
+      → (e.0 < length ys) × Is (slice_index_or ys e.0 d) e.1 × (leaf_at pairs depth n e.0 ≡ leaf_at pairs depth m e.0 → ⊥)
   entry j e got =
       let c = change_is 0 (leaves pairs depth n) (leaves pairs depth m) long j e got in
       let none : 0 + c.place ≡ c.place = omega arith in
@@ -30,6 +31,7 @@ module _ {A : Type 0} (Is : A → ℕ → Type 0) (d : A) (xs ys : List A) (pair
         | inl lt ↦ (
           omega (arith, place, lt),
           subst (λ p. Is (slice_index_or ys p d) e.1) (sym place) (subst (Is (slice_index_or ys c.place d)) (sym name) (leaf_named Is d ys pairs depth m hy c.place lt)),
+          λ same. c.differs (ap (leaf_at pairs depth n) (sym place) ∙ same ∙ ap (leaf_at pairs depth m) place),
         )
         | inr high ↦ absurd (c.differs (none_past Is d xs pairs depth n hx c.place (omega (arith, high, many)) ∙ sym (none_past Is d ys pairs depth m hy c.place high)))
       ]

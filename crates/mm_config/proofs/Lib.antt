@@ -18,7 +18,9 @@ pub mod OwnCells
 pub mod NotedRest
 pub mod NotedWhole
 pub mod ChangedLeaves
+pub mod Masked
 pub mod ReadSlots
+pub mod Differing
 pub mod ReadQueues
 pub mod ReadOutputs
 pub mod StartNames

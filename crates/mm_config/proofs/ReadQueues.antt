@@ -24,8 +24,9 @@ IsRowName k row name = IsQueueName k row.queue name
 
 module _ (wanted : Names) (c : code.Configs) (r : Reaches wanted c) where
   pub queue_entry : (j : ℕ) (e : ℕ × ℕ) → slice_get (queue_changes wanted c) j ≡ Some e → (e.0 < length r.state.core.rows) × IsQueueName c.store (queue_in r.state.core e.0) e.1
-  queue_entry =
-      entry (IsRowName c.store) no_row r.at.machine.core.rows r.state.core.rows c.store.pairs c.depth c.names.queues wanted.queues r.stands.named.names.queues r.names.queues (as_many wanted c r)
+  queue_entry j e got =
+      let h = entry (IsRowName c.store) no_row r.at.machine.core.rows r.state.core.rows c.store.pairs c.depth c.names.queues wanted.queues r.stands.named.names.queues r.names.queues (as_many wanted c r) j e got in
+      (h.0, h.1)
 
   pub queue_back : (e : ℕ × ℕ) → (e.0 < length r.state.core.rows) × IsQueueName c.store (queue_in r.state.core e.0) e.1 → queue_from (named [] c.store.lists e.1) ≡ queue_in r.state.core e.0
   queue_back e h = ap queue_from h.1.is ∙ queue_read (queue_in r.state.core e.0) (events_kept r.image r.state r.config e.0 h.0)
