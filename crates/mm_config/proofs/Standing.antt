@@ -2,18 +2,18 @@
 use Rattle.std.proofs.Common.{◌≡◌, ◌⊎◌, Vec, Global, ℕ, ◌+◌, ◌<◌, ◌≤◌, ◌^◌, List, [], ◌∷◌, ◌++◌, map, length, take, Bool, false, if◌then◌else◌, slice_index_or, refl, sym, ap, ◌∙◌, subst, arith, length-append}
 use Rattle.std.proofs.lemmas.List.{length-map, length-take-le}
 use Rattle.std.specs.List.{AllByRecursion, AllZip}
-use Rattle.mm_model.specs.{declared.event.Event.Event, Slot.Slot, Flags.flags, Memory.Memory, Image.Image, State.{ThreadRow, Core, State, output_of}}
+use Rattle.mm_model.specs.{declared.event.Event.Event, Slot.Slot, Flags.flags, Memory.{Memory, IsPaged}, Image.Image, State.{ThreadRow, Core, State, output_of}}
 use Rattle.mm_model.specs.{Fits.{slots_of, identity_of, IsCore}, Spelling.IsImage}
 use Rattle.mm_model.proofs.{Bytes.Bitmaps.length-flags, CoreRows.each_map, Shortness.queue_short}
 use Rattle.mm_thread.specs.{SlotIndices.{no_slot, slot_in, queue_in}, Revisions.{Extension, queue_in_place, queues_in, outputs_in, revised}}
 use Rattle.mm_thread.proofs.{Cores.output_short, Index.queue_found, RowIndex.apart_in}
 use Rattle.mm_config.specs.declared.configs.Configs as code
 use Rattle.mm_config.specs.declared.{store.Store.Store, names.Names.Names}
-use Rattle.mm_config.specs.{Configurations.configuration, Machines.Configs, Naming.{AreNamesOf, IsRest, IsKeptOnce}, Noting.{IsKeptStill, HasMoreCells, mapped_pages}}
+use Rattle.mm_config.specs.{Configurations.configuration, Machines.Configs, Naming.{AreNamesOf, AreMemoryNames, IsRest, IsKeptOnce}, Noting.{IsKeptStill, HasMoreCells, mapped_pages}}
 use Rattle.mm_config.specs.Keeping.{IsConfigurationOf, IsKeyOf, IsMachineAt, HasNamesOf, Stands}
 use Rattle.mm_config.specs.Reaching.{HasConfiguration, Reaches, HasPutCore, KeepsAll, HasReadSlots, HasReadQueues, HasReadOutputs, IsListed, Extends}
 pub use Rattle.mm_config.proofs.Reached.config_core
-use Rattle.mm_config.proofs.{Reached.{slots_rows, own, aim, base_rows, as_many, groups, few_base}, Keys.key_tells, Noted.still_more, Staying.{keys_stay, names_stay, rest_stays}, Revising.{LeadsTo, revised_is}}
+use Rattle.mm_config.proofs.{Reached.{slots_rows, own, aim, base_rows, as_many, groups, few_base}, Keys.key_tells, Zips.{zip_long, zip_from, each_at}, Noted.still_more, Staying.{keys_stay, names_stay, rest_stays}, Revising.{LeadsTo, revised_is}}
 
 -- 1. A machine stands if it is at a configuration, with its names, and if what was kept still is.
 
@@ -83,6 +83,20 @@ module _ (c : code.Configs) (key : ℕ × ℕ) (h : HasConfiguration c key) wher
     config = h.config;
     names = subst (AreNamesOf h.image.slots c.depth c.store h.state) (sym e) h.is.are;
   }
+
+-- the configuration of a key that is kept
+pub kept_long : (i : Image) (v : Configs) (c : code.Configs) → Stands i v c → length v.kept ≡ length c.kept.keys
+kept_long i v c h = zip_long (IsKeyOf i.slots c.depth c.store) v.kept c.kept.keys h.each
+
+pub has_kept : (i : Image) (v : Configs) (c : code.Configs) → Stands i v c → (at : ℕ) (key : ℕ × ℕ) → at < length v.kept → key ≡ slice_index_or c.kept.keys at (0, 0) → HasConfiguration c key
+has_kept i v c h at key lt same = record {
+  image = i;
+  at = v;
+  state = slice_index_or v.kept at v.machine;
+  stands = h;
+  config = each_at (IsConfigurationOf i) v.kept h.configs at v.machine lt;
+  is = subst (IsKeyOf i.slots c.depth c.store (slice_index_or v.kept at v.machine)) (sym same) (zip_from (IsKeyOf i.slots c.depth c.store) v.kept c.kept.keys h.each at v.machine (0, 0) lt);
+}
 
 -- 3. The core.
 
@@ -187,7 +201,27 @@ module _ (wanted : Names) (c0 c1 c2 c3 : code.Configs) (r : Reaches wanted c0) (
       (omega (arith, inside, groups), omega (arith, cut, both, all, short)))
       (outputs_in c3.revision) extended
 
--- 4. All.
+-- 4. The memory, after the core.
+
+module _ (c0 c1 : code.Configs) (key : ℕ × ℕ) (h : HasConfiguration c0 key) (core : HasPutCore h.state.core c0 c1) where
+  pub memory_before : AreMemoryNames c1.store c1.mem.memory c1.names
+  memory_before =
+      subst (λ (c : code.Configs). AreMemoryNames c.store c.mem.memory c.names) (sym core.others)
+      (subst (λ m. AreMemoryNames c0.store m c0.names) (sym h.stands.machine.memory) h.stands.named.names.memory)
+
+  pub memory_wanted : (w : Names) → w ≡ h.is.names → AreMemoryNames c1.store h.state.memory w
+  memory_wanted w e =
+      subst (λ (c : code.Configs). AreMemoryNames c.store h.state.memory w) (sym core.others) (subst (AreMemoryNames c0.store h.state.memory) (sym e) h.is.are.memory)
+
+  pub is_paged : IsPaged h.state.memory
+  is_paged = record { pages = h.config.state.state.pages; fitting = h.config.state.fits.mapped }
+
+  pub same_frames : h.state.memory.frames ≡ c1.mem.memory.frames
+  same_frames =
+      h.config.state.fits.frames ∙ sym h.stands.machine.config.state.fits.frames ∙ ap (λ (m : Memory). m.frames) (sym h.stands.machine.memory)
+      ∙ ap (λ (c : code.Configs). c.mem.memory.frames) (sym core.others)
+
+-- 5. All.
 
 module _ (c0 c1 c4 : code.Configs) (key : ℕ × ℕ) (h : HasConfiguration c0 key) (core : HasPutCore h.state.core c0 c1) (more : HasMoreCells c1.store c4.store)
     (memory : c4.mem.memory ≡ h.state.memory) (uses : c4.mem.uses ≡ c1.mem.uses) (mapped : c4.mapped.items ≡ mapped_pages c4.mem.memory) (names : c4.names ≡ h.is.names) (rest : c4.rest ≡ key.1)
