@@ -260,23 +260,23 @@ module _ (k : Store) (c : Changes) (old : Plain) (can : CanPut k old c) where
   page_wanted (Some cells) name some h = (cells, h)
 
   -- what putting a page asks
-  pub record MayPut (new : Plain) (number before page : ℕ) : Type 0 where
-    pub number : number < 2 ^ 42
-    pub known : IsOrNone (IsPageName k) (page_at new.memory number) before
-    pub room : before ≡ 0 → can_map new.memory number ≡ true
+  pub record MayPut (new : Plain) (at before page : ℕ) : Type 0 where
+    pub small : at < 2 ^ 42
+    pub known : IsOrNone (IsPageName k) (page_at new.memory at) before
+    pub room : before ≡ 0 → can_map new.memory at ≡ true
     pub wanted : (cells : List Cell) × IsPageName k cells page
 
   pub may_put : (n : ℕ) (new : Plain) (so : IsPutSoFar k c (λ index name. (name ≡ 0) ⊎ (index < n)) old new) (e : ℕ × ℕ) (got : slice_get c.list.now n ≡ Some e) → e.1 ≢ 0 → IsPaged new.memory
-      → (number before : ℕ) → number ≡ slice_index_or k.pages e.0 0 → before ≡ slice_index_or was e.0 0 → MayPut new number before e.1
-  may_put n new so e got some paged number before is from =
+      → (at before : ℕ) → at ≡ slice_index_or k.pages e.0 0 → before ≡ slice_index_or was e.0 0 → MayPut new at before e.1
+  may_put n new so e got some paged at before is from =
       let page = page_of_change n e got in
-      let at : slice_index_or names (page_place k.pages (slice_index_or k.pages e.0 0)) 0 ≡ e.1 = ap (λ p. slice_index_or names p 0) page.place ∙ sym page.name in
+      let name : slice_index_or names (page_place k.pages (slice_index_or k.pages e.0 0)) 0 ≡ e.1 = ap (λ p. slice_index_or names p 0) page.place ∙ sym page.name in
       let known = not_yet (λ index name. (name ≡ 0) ⊎ (index < n)) (λ index name. ⊥) new so n e got (not_made n new so e got some) in
       record {
-        number = subst (λ q. q < 2 ^ 42) (sym is) page.small;
+        small = subst (λ q. q < 2 ^ 42) (sym is) page.small;
         known = subst (λ q. IsOrNone (IsPageName k) (page_at new.memory q) before) (sym is) (subst (IsOrNone (IsPageName k) (page_at new.memory (slice_index_or k.pages e.0 0))) (sym from) known);
         room = λ none. subst (λ q. can_map new.memory q ≡ true) (sym is) (has_frame n new so e got some (sym from ∙ none) paged);
-        wanted = page_wanted (page_at can.wanted (slice_index_or k.pages e.0 0)) e.1 some (subst (IsOrNone (IsPageName k) (page_at can.wanted (slice_index_or k.pages e.0 0))) at (can.names.pages (slice_index_or k.pages e.0 0)));
+        wanted = page_wanted (page_at can.wanted (slice_index_or k.pages e.0 0)) e.1 some (subst (IsOrNone (IsPageName k) (page_at can.wanted (slice_index_or k.pages e.0 0))) name (can.names.pages (slice_index_or k.pages e.0 0)));
       }
 
   -- 5. All changes are made.

@@ -1,7 +1,7 @@
-use Rattle.std.proofs.Common.{◌≡◌, ◌<◌, ◌^◌, ℕ, length, slice_get, slice_index_or, Some, sym, ap, subst, arith}
+use Rattle.std.proofs.Common.{◌≡◌, ◌⊎◌, ◌+◌, ◌<◌, ◌^◌, ℕ, length, slice_get, slice_index_or, Some, sym, ap, subst, arith}
 use Rattle.std.proofs.lemmas.Option.{slice_get-get_or}
 use Rattle.mm_pairs.proofs.Names.{length_leaves}
-use Rattle.mm_config.specs.Putting.{HasPut}
+use Rattle.mm_config.specs.Putting.{HasPut, IsPutSoFar}
 use Rattle.mm_config.proofs.PutPages.{put_begins, put_skips, put_makes, put_ends, page_of_change, may_put}
 use Rattle.mm_config.proofs.put_memory.put_pages.Goals as goal
 use Rattle.mm_config.proofs.put_memory.put_pages.Goals.{then-page-ne0, else-page-ne0}
@@ -33,7 +33,7 @@ put_page-requires c =
     let i = l.place-index in
     let may = may_put c.args.store.now c.args.changes.now c.args.mem.now c.requires i l.mem l.invariant (slice_index_or list i (0, 0)) (slice_get-get_or list i (0, 0) c.loop-place-test.true)
     c.if-page-ne0.true c.pages-count.ensures.paged c.number-number.result c.leaf-before.result c.number-number.ensures c.leaf-before.ensures in
-    record { number = may.number; known = may.known; room = may.room; wanted = may.wanted }
+    record { number = may.small; known = may.known; room = may.room; wanted = may.wanted }
 
 pub loop-place-preserved : goal.loop-place-preserved
 loop-place-preserved c =
@@ -50,8 +50,8 @@ loop-place-preserved c =
       let may = may_put k ch old c.requires i l.mem l.invariant e got w.if-page-ne0.true c.pages-count.ensures.paged w.number-number.result w.leaf-before.result w.number-number.ensures w.leaf-before.ensures in
       let page = may.wanted in
       let put = subst (λ q. HasPut l.mem now q (Some page.0)) w.number-number.ensures (w.in_ok-put_page.ensures page.0 page.1) in
-      put_makes k ch old c.requires i l.mem e got l.invariant now page.0 put page.1
-      | else-page-ne0 w ↦ put_skips k ch old c.requires i l.mem e got l.invariant w.if-page-ne0.false
+      subst (IsPutSoFar k ch (λ index name. (name ≡ 0) ⊎ (index < i + 1)) old) (sym w.mem-is) (put_makes k ch old c.requires i l.mem e got l.invariant now page.0 put page.1)
+      | else-page-ne0 w ↦ subst (IsPutSoFar k ch (λ index name. (name ≡ 0) ⊎ (index < i + 1)) old) (sym w.mem-is) (put_skips k ch old c.requires i l.mem e got l.invariant w.if-page-ne0.false)
     ]
 
 pub returns : goal.returns

@@ -1,6 +1,6 @@
-use Rattle.std.proofs.Common.{◌≡◌, ◌<◌, ℕ, length, slice_get, slice_index_or, Some, None, sym, ap, subst, arith}
+use Rattle.std.proofs.Common.{◌≡◌, ◌+◌, ◌<◌, ℕ, length, slice_get, slice_index_or, Some, None, sym, ap, subst, arith}
 use Rattle.std.proofs.lemmas.Option.{slice_get-get_or}
-use Rattle.mm_config.specs.Putting.{HasPut}
+use Rattle.mm_config.specs.Putting.{HasPut, IsPutSoFar}
 use Rattle.mm_config.proofs.{PutCells.unmapped_page, PutPages.{unmap_begins, unmap_skips, unmap_makes, unmap_ends, page_of_change}}
 use Rattle.mm_config.proofs.put_memory.unmap_pages.Goals as goal
 use Rattle.mm_config.proofs.put_memory.unmap_pages.Goals.{then-page-eq0, else-page-eq0}
@@ -36,8 +36,8 @@ loop-place-preserved c =
       then-page-eq0 w ↦
       let now = w.unmap.new.self in
       let put = subst (λ q. HasPut l.mem now q None) w.number.ensures (unmapped_page l.mem now w.number.result w.unmap.ensures.after w.unmap.ensures.count) in
-      unmap_makes k ch old c.requires i l.mem e got l.invariant w.if-page-eq0.true now put
-      | else-page-eq0 w ↦ unmap_skips k ch old c.requires i l.mem e got l.invariant w.if-page-eq0.false
+      subst (IsPutSoFar k ch (λ index name. (index < i + 1) × (name ≡ 0)) old) (sym w.mem-is) (unmap_makes k ch old c.requires i l.mem e got l.invariant w.if-page-eq0.true now put)
+      | else-page-eq0 w ↦ subst (IsPutSoFar k ch (λ index name. (index < i + 1) × (name ≡ 0)) old) (sym w.mem-is) (unmap_skips k ch old c.requires i l.mem e got l.invariant w.if-page-eq0.false)
     ]
 
 pub returns : goal.returns
