@@ -16,10 +16,10 @@ numbers pages = map (λ (e : ℕ × List Cell). e.0) pages
 
 -- 1. Orders.
 
-pub less_means : (k n : ℕ) → nat_cmp k n ≡ Less → k < n
+less_means : (k n : ℕ) → nat_cmp k n ≡ Less → k < n
 less_means k n h = grind (arith, nat_tests)
 
-pub equal_means : (k n : ℕ) → nat_cmp k n ≡ Equal → k ≡ n
+equal_means : (k n : ℕ) → nat_cmp k n ≡ Equal → k ≡ n
 equal_means k n h = grind (arith, nat_tests)
 
 lt_means : (k n : ℕ) → T (is_lt (nat_cmp k n)) → k < n

@@ -1,8 +1,8 @@
 -- Pages that are put, change by change.
-use Rattle.std.proofs.Common.{◌≡◌, ◌≢◌, ◌⊎◌, inl, inr, ℕ, zero, suc, ◌+◌, ◌<◌, ◌≤◌, ◌^◌, Bool, true, false, not, ◌&&◌, nat_lt, List, [], ◌∷◌, length, slice_get, slice_index_or, slice_set, Option, Some, None, is_some, cond}
+use Rattle.std.proofs.Common.{◌≡◌, ◌≢◌, ◌⊎◌, inl, inr, ℕ, zero, suc, ◌+◌, ◌<◌, ◌≤◌, ◌^◌, Bool, true, false, not, ◌&&◌, nat_lt, List, [], ◌∷◌, length, slice_get, slice_index_or, slice_set, Option, Some, None, is_some}
 use Rattle.std.proofs.Common.{refl, sym, ap, ◌∙◌, subst, arith, T}
-use Rattle.std.proofs.lemmas.{Bool.{cases_eq, cases_lt, lt-ltb, Decides.nat_tests}, Cmp.nat_cmp_total, List.{get_or-set_same, get_or-set_other, get_or_past}, Option.slice_get_within}
-use Rattle.std.specs.{Ordering.{nat_cmp, ord_max, is_lt}, declared.cmp.Ordering.{Ordering, TheVariants.{Less, Equal, Greater}}, List.AllByRecursion, FinMap.{find, is_sorted, nat_cmp-IsAntisymmetric}, FinMap.Entries.same_entries}
+use Rattle.std.proofs.lemmas.{Bool.{cases_eq, cases_lt, lt-ltb}, Cmp.nat_cmp_total, List.{get_or-set_same, get_or-set_other, get_or_past}, Option.slice_get_within}
+use Rattle.std.specs.{Ordering.nat_cmp, List.AllByRecursion, FinMap.{find, is_sorted, nat_cmp-IsAntisymmetric}, FinMap.Entries.same_entries}
 use Rattle.mm_word.specs.declared.word.Cell.{Cell}
 use Rattle.mm_model.specs.Memory.{Memory, page_at, is_mapped, can_map, IsPage, IsPaged}
 use Rattle.mm_mem.specs.Plain.{Plain}
@@ -10,7 +10,7 @@ use Rattle.mm_pairs.{specs.{Named.{HasGrown, IsNameOf}, Trees.{changed, leaves}}
 use Rattle.std.proofs.Math.Seq.{take-length}
 use Rattle.mm_config.specs.declared.{store.Store.Store, names.Names.Names, put_memory.Changes.Changes}
 use Rattle.mm_config.specs.{Naming.{AreMemoryNames, IsPageName, IsOrNone, leaf_at, page_name}, Noting.{HasMoreCells, IsSameTree}, Places.{page_place, HaveOnePlace}, Putting.{IsOnWay, HasPages, HasPut, CanPut, IsPutSoFar, old_pages, new_pages}}
-use Rattle.mm_config.proofs.{NamedOnce.{pages_tell, not_none}, PageLists.{fewer_by_one, find_later, less_means, equal_means}, Placing.place_tells, Noted.{or_none, still_more, memory_more}, PageCells.more_pairs, PageTrees.leaf_stays}
+use Rattle.mm_config.proofs.{NamedOnce.{pages_tell, not_none}, PageLists.{fewer_by_one, find_later}, Placing.place_tells, Noted.{or_none, still_more, memory_more}, PageCells.more_pairs, PageTrees.leaf_stays}
 use Rattle.mm_config.proofs.Walks.{change_is, change_at, begins, made, same_way, arrived, up_to}
 
 -- 1. Names of pages.
@@ -308,14 +308,6 @@ raised_pages k k2 mid m n height tree h raised grown more = record {
     same p = leaf_stays mid k2.pairs grown height tree raised.inner p ∙ raised.leaves p
 
 -- 7. What putting asks and leaves, where both trees are made as deep as one of them.
-
-pub max_of : (a b n : ℕ) → n ≡ ord_max nat_cmp a b → (a ≤ n) × (b ≤ n) × ((n ≡ a) ⊎ (n ≡ b))
-max_of a b n e = by (nat_cmp b a) refl e
-  where
-    by : (o : Ordering) → nat_cmp b a ≡ o → n ≡ cond (is_lt o) a b → (a ≤ n) × (b ≤ n) × ((n ≡ a) ⊎ (n ≡ b))
-    by Less is e = let lt = less_means b a is in (omega (arith, e), omega (arith, e, lt), inl e)
-    by Equal is e = let same = equal_means b a is in (omega (arith, e, same), omega (arith, e), inr e)
-    by Greater is e = let lt : a < b = grind (arith, nat_tests) in (omega (arith, e, lt), omega (arith, e), inr e)
 
 module _ (k : Store) (old : Plain) (was wanted : Names) (c : Changes) (p1 p2 : List (ℕ × ℕ)) (own : AreMemoryNames k old.memory was)
     (one : IsSameTree k.pairs was p1 (record was { height = c.height; pages = c.before })) (two : IsSameTree p1 wanted p2 (record wanted { height = c.height; pages = c.after })) where

@@ -4,7 +4,7 @@ use Rattle.mm_pairs.proofs.Names.{length_leaves}
 use Rattle.mm_config.specs.Putting.{HasPut, IsPutSoFar}
 use Rattle.mm_config.proofs.PutPages.{put_begins, put_skips, put_makes, put_ends, page_of_change, may_put}
 use Rattle.mm_config.proofs.put_memory.put_pages.Goals as goal
-use Rattle.mm_config.proofs.put_memory.put_pages.Goals.{then-page-ne0, else-page-ne0}
+use Rattle.mm_config.proofs.put_memory.put_pages.Goals.{then-page-ne0+in_ok-put_page, else-page-ne0}
 
 pub loop-place-init : goal.loop-place-init
 loop-place-init c = put_begins c.args.store.now c.args.changes.now c.args.mem.now c.requires c.unmap_pages.new.mem c.unmap_pages.ensures
@@ -45,7 +45,7 @@ loop-place-preserved c =
     let e : ℕ × ℕ = slice_index_or ch.list.now i (0, 0) in
     let got = slice_get-get_or ch.list.now i (0, 0) c.loop-place-test.true in
     elim c.if-page-ne0.branch [
-      then-page-ne0 w ↦
+      then-page-ne0+in_ok-put_page w ↦
       let now = w.put_page.new.mem in
       let may = may_put k ch old c.requires i l.mem l.invariant e got w.if-page-ne0.true c.pages-count.ensures.paged w.number-number.result w.leaf-before.result w.number-number.ensures w.leaf-before.ensures in
       let page = may.wanted in
