@@ -4,7 +4,7 @@ use Rattle.std.proofs.lemmas.List.{reverse-append, reverse-reverse, length-rever
 use Rattle.std.specs.List.{AllByRecursion}
 use mathlib.Core.List.{reverse_aux}
 use Rattle.mm_pairs.specs.Trees.{pair_of}
-use Rattle.mm_config.specs.Naming.IsChain
+use Rattle.mm_config.specs.Naming.{IsChain}
 use Rattle.mm_config.proofs.NamedOnce.{chains_tell}
 
 -- what is left of the chain of one output, the last byte first, and of that of the other, some of whose bytes were taken
@@ -36,6 +36,15 @@ changing_begins pairs old new was wanted len h g long small = record {
   aim = g;
   small = each_reverse (λ byte. byte < 256) new [] small tt;
 }
+
+-- as far as two outputs of these names were changed
+pub record ChangesSoFar (pairs : List (ℕ × ℕ)) (was wanted len kept left aim : ℕ) (bytes : List ℕ) : Type 0 where
+  pub old : List ℕ
+  pub new : List ℕ
+  pub named : IsChain pairs (reverse old) was
+  pub long : len ≡ length old
+  pub target : IsChain pairs (reverse new) wanted
+  pub so : IsChanging pairs (reverse old) (reverse new) kept left aim bytes
 
 -- the name of a chain is one of those that are kept
 pub chain_within : (pairs : List (ℕ × ℕ)) (bytes : List ℕ) (name : ℕ) → IsChain pairs bytes name → name ≤ length pairs
