@@ -6,7 +6,8 @@ use Rattle.mm_model.specs.{Slot.Slot, Image.Image, State.{ThreadRow, Core, State
 use Rattle.mm_model.proofs.Fitted.{core_of}
 use Rattle.mm_thread.specs.SlotIndices.{no_slot, no_row, slot_in}
 use Rattle.mm_thread.proofs.{Revised.slots_many, RowIndex.{few_rows, small_numbers}}
-use Rattle.mm_config.specs.declared.{configs.Configs as code, names.Names.Names}
+use Rattle.mm_config.specs.declared.configs.Configs as code
+use Rattle.mm_config.specs.declared.names.Names.{Names}
 use Rattle.mm_config.specs.{Keeping.IsConfigurationOf, Reaching.Reaches}
 
 pub config_core : (i : Image) (s : State) → IsImage i → IsConfigurationOf i s → IsCore s.core

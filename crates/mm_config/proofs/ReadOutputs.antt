@@ -5,7 +5,8 @@ use Rattle.mm_model.specs.State.{Core, State, output_of}
 use Rattle.mm_model.proofs.CoreRows.{each_get, each_push}
 use Rattle.mm_thread.specs.Revisions.{Extension, outputs_in}
 use Rattle.mm_pairs.specs.Trees.{leaves, changed}
-use Rattle.mm_config.specs.declared.{configs.Configs as code, names.Names.Names}
+use Rattle.mm_config.specs.declared.configs.Configs as code
+use Rattle.mm_config.specs.declared.names.Names.{Names}
 use Rattle.mm_config.specs.{Naming.{IsOutputName, leaf_at}, Reaching.{Reaches, KeepsAll, IsListed, Extends, HasReadOutputs}}
 use Rattle.mm_config.proofs.{ChangedLeaves.{leaf_named, entry, left, AreListed, none_listed, one_listed, all_listed}, NamedOnce.outputs_tell, Reached.{groups, own}}
 

@@ -6,7 +6,8 @@ use Rattle.mm_model.specs.{declared.event.Event.Event, Image.Image, State.{Threa
 use Rattle.mm_model.proofs.CoreRows.{each_get, each_push}
 use Rattle.mm_thread.specs.{SlotIndices.{no_row, queue_in}, Revisions.queues_in}
 use Rattle.mm_pairs.specs.{Named.named, Trees.{leaves, changed}}
-use Rattle.mm_config.specs.declared.{configs.Configs as code, store.Store.Store, names.Names.Names}
+use Rattle.mm_config.specs.declared.configs.Configs as code
+use Rattle.mm_config.specs.declared.{store.Store.Store, names.Names.Names}
 use Rattle.mm_config.specs.{Forms.{queue_form, queue_from}, Keeping.IsConfigurationOf, Naming.{IsQueueName, leaf_at}, Reaching.{Reaches, KeepsAll, IsListed, HasReadQueues}}
 use Rattle.mm_config.proofs.{ChangedLeaves.{leaf_named, entry, left, AreListed, none_listed, one_listed, all_listed}, Reached.as_many}
 use Rattle.mm_config.proofs.{Keepables.queues_kept, EventForms.{IsKeptEvent, queue_read, queue_tells}}

@@ -6,7 +6,8 @@ use Rattle.mm_model.specs.{Slot.Slot, Image.Image, Flags.flags, State.{ThreadRow
 use Rattle.mm_model.proofs.CoreRows.{each_get}
 use Rattle.mm_thread.specs.SlotIndices.{no_slot, no_row, slot_in}
 use Rattle.mm_pairs.specs.{Named.{named, HaveOneName}, Trees.{leaves, changed}}
-use Rattle.mm_config.specs.declared.{configs.Configs as code, store.Store.Store, names.Names.Names}
+use Rattle.mm_config.specs.declared.configs.Configs as code
+use Rattle.mm_config.specs.declared.{store.Store.Store, names.Names.Names}
 use Rattle.mm_config.specs.{Configurations.{uncounted_slot, uncounted_row, configuration}, Forms.{slot_form, slot_from}, Keeping.IsConfigurationOf}
 use Rattle.mm_config.specs.{Reaching.{Reaches, KeepsAll, HasReadSlots}, Naming.{AreLeaves, IsSlotName, leaf_at}}
 use Rattle.mm_config.proofs.{NamedOnce.one_name, ChangedLeaves.{leaf_named, entry, left}, Reached.{slots_rows, pair_count, pair_at, few_base}, Masked.{IsMasked, AreMasked, none_masked, one_masked}, Keepables.{IsKeepablePair, slots_kept}, SlotForms.{IsKeepable, slot_read, form_tells}}

@@ -5,7 +5,7 @@ use Rattle.std.specs.List.{AllByRecursion, AllZip}
 use Rattle.mm_model.specs.{declared.event.Event.Event, Slot.Slot, Flags.flags, Memory.{Memory, IsPaged}, Image.Image, State.{ThreadRow, Core, State, output_of}}
 use Rattle.mm_model.specs.{Fits.{slots_of, identity_of, IsCore}, Spelling.IsImage}
 use Rattle.mm_model.proofs.{Bytes.Bitmaps.length-flags, CoreRows.each_map, Shortness.queue_short}
-use Rattle.mm_thread.specs.{SlotIndices.{no_slot, slot_in, queue_in}, Revisions.{Extension, queue_in_place, queues_in, outputs_in, revised}}
+use Rattle.mm_thread.specs.{declared.restore.Revision.Revision, SlotIndices.{no_slot, slot_in, queue_in}, Revisions.{Extension, queue_in_place, queues_in, outputs_in, revised}}
 use Rattle.mm_thread.proofs.{Cores.output_short, Index.queue_found, RowIndex.apart_in}
 use Rattle.mm_config.specs.declared.configs.Configs as code
 use Rattle.mm_config.specs.declared.{store.Store.Store, names.Names.Names}
@@ -200,6 +200,43 @@ module _ (wanted : Names) (c0 c1 c2 c3 : code.Configs) (r : Reaches wanted c0) (
       let short = output_short to (aim wanted c0 r) x.group in
       (omega (arith, inside, groups), omega (arith, cut, both, all, short)))
       (outputs_in c3.revision) extended
+
+-- what revising asks, and leads to
+pub record MayRevise (core to : Core) (slots : List Slot) (mask : ℕ) (revision : Revision) : Type 0 where
+  pub whole : IsCore (revised core (flags (length slots) mask) slots (queues_in revision) (outputs_in revision))
+  pub same : map identity_of slots ≡ map identity_of (slots_of core)
+  pub few : length slots ≤ 64
+  pub queues : AllByRecursion (λ (x : ℕ × List Event). (x.0 < length slots) × (length x.1 ≤ 64)) (queues_in revision)
+  pub outputs : AllByRecursion (λ (x : Extension). (x.group < 64) × (x.kept + length x.bytes ≤ 65536)) (outputs_in revision)
+  pub is : revised core (flags (length slots) mask) slots (queues_in revision) (outputs_in revision) ≡ to
+
+module _ (wanted : Names) (c0 c1 c2 c3 : code.Configs) (mask : ℕ) (one : (r : Reaches wanted c0) → HasReadSlots r.state.core c0 c1 mask)
+    (two : (r : Reaches wanted c1) → HasReadQueues r.state.core c1 c2) (three : (r : Reaches wanted c2) → HasReadOutputs r.state.core c2 c3) (r : Reaches wanted c0) where
+  pub reaches_1 : Reaches wanted c1
+  reaches_1 = reaches_still wanted c0 c1 r (one r).others (one r).room
+
+  pub reaches_2 : Reaches wanted c2
+  reaches_2 = reaches_still wanted c1 c2 reaches_1 (two reaches_1).others (ap (λ s. map identity_of s.items) (two reaches_1).room)
+
+  pub may_revise : (slots : List Slot) → slots ≡ c3.slots.items → MayRevise c3.core r.state.core slots mask c3.revision
+  may_revise slots e = subst (λ (l : List Slot). MayRevise c3.core r.state.core l mask c3.revision) (sym e) (record {
+    whole = whole wanted c0 c1 c2 c3 r mask (one r) (two reaches_1) (three reaches_2);
+    same = room_is wanted c0 c1 c2 c3 r mask (one r) (two reaches_1) (three reaches_2);
+    few = few_slots wanted c0 c1 c2 c3 r mask (one r) (two reaches_1) (three reaches_2);
+    queues = short_queues wanted c0 c1 c2 c3 r mask (one r) (two reaches_1) (three reaches_2);
+    outputs = short_outputs wanted c0 c1 c2 c3 r mask (one r) (two reaches_1) (three reaches_2);
+    is = core_is wanted c0 c1 c2 c3 r mask (one r) (two reaches_1) (three reaches_2);
+  })
+
+  pub has_put : (slots : List Slot) → slots ≡ c3.slots.items → (core : Core) → core ≡ revised c3.core (flags (length slots) mask) slots (queues_in c3.revision) (outputs_in c3.revision)
+      → HasPutCore r.state.core c0 (record c3 { core = core })
+  has_put slots e core is = record {
+    is = is ∙ (may_revise slots e).is;
+    room = ap (λ s. map identity_of s.items) ((three reaches_2).room ∙ (two reaches_1).room) ∙ (one r).room;
+    others = ap (λ (c : code.Configs). record c { core = core; slots = c3.slots; revision = c3.revision; changed = c3.changed })
+        ((three reaches_2).others ∙ ap (λ (c : code.Configs). record c { slots = c3.slots; revision = c3.revision; changed = c3.changed }) (two reaches_1).others
+        ∙ ap (λ (c : code.Configs). record c { slots = c3.slots; revision = c3.revision; changed = c3.changed }) (one r).others);
+  }
 
 -- 4. The memory, after the core.
 

@@ -1,7 +1,7 @@
 use Rattle.std.proofs.Common.{◌≡◌}
 use Rattle.mm_config.specs.Reaching.{Reaches}
 use Rattle.mm_config.proofs.ReadSlots.{slot_changes, SlotsSoFar}
-use Rattle.mm_config.proofs.put.Configs.read_slots.Given as goal
+use Rattle.mm_config.proofs.configs.Configs.read_slots.Given as goal
 
 abbrev pub invariant-loop-at : goal.invariant-loop-at
 invariant-loop-at l = record {

@@ -1,6 +1,6 @@
 use Rattle.std.proofs.Common.{◌≡◌, take}
 use Rattle.mm_config.specs.Noting.{mapped_pages}
-use Rattle.mm_config.proofs.put.Configs.list_mapped.Given as goal
+use Rattle.mm_config.proofs.configs.Configs.list_mapped.Given as goal
 
 abbrev pub invariant-loop-i : goal.invariant-loop-i
 invariant-loop-i l = record {

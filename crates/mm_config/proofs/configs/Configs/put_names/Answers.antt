@@ -1,8 +1,9 @@
 use Rattle.std.proofs.Common.{◌≡◌, ℕ, refl, sym, ap, ◌∙◌, subst}
-use Rattle.mm_config.specs.declared.{configs.Configs as code, names.Names.Names}
+use Rattle.mm_config.specs.declared.configs.Configs as code
+use Rattle.mm_config.specs.declared.names.Names.{Names}
 use Rattle.mm_config.specs.{Keeping.Stands, Reaching.HasPutCore}
 use Rattle.mm_config.proofs.Standing.{there_already, wanted_is, reaches_it, memory_before, memory_wanted, is_paged, same_frames, put_stands}
-use Rattle.mm_config.proofs.put.Configs.put_names.Goals as goal
+use Rattle.mm_config.proofs.configs.Configs.put_names.Goals as goal
 
 pub of-wanted-requires : goal.of-wanted-requires
 of-wanted-requires c = (c.requires.is.names, c.requires.is.rest)

@@ -1,7 +1,7 @@
 use Rattle.std.proofs.Common.{◌≡◌}
 use Rattle.mm_config.specs.Reaching.{Reaches}
 use Rattle.mm_config.proofs.ReadOutputs.{output_changes, OutputsSoFar}
-use Rattle.mm_config.proofs.put.Configs.read_outputs.Given as goal
+use Rattle.mm_config.proofs.configs.Configs.read_outputs.Given as goal
 
 abbrev pub invariant-loop-group : goal.invariant-loop-group
 invariant-loop-group l = record {
