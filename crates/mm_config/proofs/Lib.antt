@@ -16,6 +16,9 @@ pub mod NextState
 pub mod OwnCells
 pub mod NotedRest
 pub mod NotedWhole
+pub mod OneNote
+pub mod NotedMemory
+pub mod TurnMade
 pub mod ReadSlots
 pub mod ReadQueues
 pub mod StartNames

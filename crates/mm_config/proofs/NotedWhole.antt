@@ -1,5 +1,6 @@
 -- A machine stands at the configuration after a turn of which all was noted.
-use Rattle.std.proofs.Common.{◌≡◌, ◌≢◌, ◌⊎◌, inl, inr, ℕ, ◌<◌, ◌≤◌, ◌^◌, Option, Some, List, [], ◌∷◌, ◌++◌, ◌%◌, map, length, slice_index_or, refl, sym, ap, ◌∙◌, subst, arith}
+use Rattle.std.proofs.Common.{◌≡◌, ◌≢◌, ◌⊎◌, inl, inr, ℕ, ◌<◌, ◌≤◌, ◌^◌, Option, Some, None, List, [], ◌∷◌, ◌++◌, ◌%◌, map, length, slice_index_or, refl, sym, ap, ◌∙◌, subst, arith}
+use Rattle.std.proofs.Math.Seq.{take-length}
 use Rattle.std.proofs.lemmas.{Bool.cases_eq, List.{length-map, get_or-map}, Option.slice_get-get_or}
 use Rattle.std.specs.{Prelude.{zip, IfSome, IsBitSet, IsSomeAnd, ◌↔◌}, List.AllByRecursion}
 use Rattle.mm_model.specs.declared.{event.Event.Event, step.Step.Step, slot.SlotState.TheVariants.Running}
@@ -15,8 +16,8 @@ use Rattle.mm_config.specs.Naming.{AreNamesOf, AreMemoryNames, AreLeaves, IsOrNo
 use Rattle.mm_laws.specs.Frames.{OutputLeft, MemoryLeft}
 use Rattle.mm_config.specs.{Noting.{IsKeptStill, mapped_pages}, Keeping.{Stands, IsConfigurationOf}, Turning.{HasTurned, HasTrees, WasOutput, WasMemory, NotesLeaves, NotesSlots, NotesQueues, NotesOutputs, NotesMemory, IsServedBy, IsFaultHandler}}
 use Rattle.mm_config.proofs.{NextState.{core_before, core_after, frame, same_identities, uncounted_core, bare_core_whole, next_config, identities_bare}, NotedTurn.{turn_slot, zip_long, slots_long, slots_settled, queues_settled}}
-use Rattle.mm_config.proofs.{Staying.{leaves_stay_named, slot_stays, queue_stays, output_stays, memory_stays}, PageTrees.none_at, Noted.twice, NotedRest.{last_byte, output_named, outputs_settled, memory_alike}, States.after_state_of}
-use Rattle.mm_config.proofs.{Standing.stands_at, TurnNames.{base_identity, identity_in, slot_stays_in, queue_stays_in}}
+use Rattle.mm_config.proofs.{Staying.{leaves_stay_named, slot_stays, queue_stays, output_stays, memory_stays, rest_stays}, PageTrees.none_at, Noted.twice, NotedRest.{last_byte, output_named, outputs_settled, memory_alike}, States.after_state_of}
+use Rattle.mm_config.proofs.{Standing.stands_at, TurnNames.{base_identity, identity_in, missing_before, slot_stays_in, queue_stays_in}, Turned.nobody_turns}
 
 -- what no note changes
 record KeepsParts (old new : code.Configs) : Type 0 where
@@ -31,6 +32,15 @@ parts_twice a b c h g = record { base = g.base ∙ h.base; slots = g.slots ∙ h
 no_events : (q : List Event) → [] ≡ queue_form q → q ≡ []
 no_events [] e = refl
 no_events (x ∷ q) e = cc
+
+still_same : (k : Store) → IsKeptStill k k
+still_same k = record { pairs = take-length k.pairs; outputs = take-length k.outputs; lists = take-length k.lists; cells = take-length k.cells; pages = take-length k.pages }
+
+-- the name of the rest is that of other names that differ by the slots alone
+rest_alike : (pairs : List (ℕ × ℕ)) (n m : Names) (rest : ℕ) → record n { slots = m.slots } ≡ m → IsRest pairs m rest → IsRest pairs n rest
+rest_alike pairs n m rest e h =
+    let back : IsRest pairs (record n { slots = m.slots }) rest = subst (λ (x : Names). IsRest pairs x rest) (sym e) h in
+    record { two = back.two; others = back.others; events = back.events; depth = back.depth; all = back.all }
 
 uncounted_in : (core : Core) (k : ℕ) → k < length core.rows → slot_in (uncounted core) k ≡ uncounted_slot (slot_in core k)
 uncounted_in core k lt = ap (λ (row : ThreadRow). row.slot) (get_or-map uncounted_row core.rows k no_row no_row lt)
@@ -85,6 +95,32 @@ module _ (b : Before) (step : Step) (c : code.Configs) (t : HasTurned b step c) 
 
   bare_same : map identity_of (slots_of bare) ≡ map identity_of (slots_of s.core)
   bare_same = identities_bare later.rows ∙ same_identities i s t.item t.stands.image config
+
+  -- nobody has made the turn
+  pub nobody_stands : slot_at c.core step.slot ≡ None → Stands i (record t.at { machine = configuration (after s t.item) }) c
+  nobody_stands none =
+      let later_none : slot_at later (turn_of s t.item).step.slot ≡ None =
+      ap (λ (k : Core). slot_at k (turn_of s t.item).step.slot) (sym t.core) ∙ ap (λ (x : Step). slot_at c.core x.slot) (sym t.step) ∙ none in
+      let before_none = missing_before s.core later before after_core (same_identities i s t.item t.stands.image config) (turn_of s t.item).step.slot later_none in
+      let same = (frame i s t.item t.stands.image config).nobody before_none in
+      subst (λ (x : State). Stands i (record t.at { machine = x }) c) (sym (nobody_turns s config.bare t.item (frame i s t.item t.stands.image config) before_none))
+      (stands_at i t.at s t.was c t.stands
+        (ap (λ (x : code.Configs). x.base) t.others)
+        (ap (λ (x : code.Configs). map identity_of x.slots.items) t.others)
+        (ap (λ (x : code.Configs). x.depth) t.others)
+        (ap (λ (x : code.Configs). x.kept) t.others)
+        (subst (IsKeptStill t.was.store) (sym (ap (λ (x : code.Configs). x.store) t.others)) (still_same t.was.store))
+        (record {
+          core = t.core ∙ same.0;
+          memory = t.memory ∙ same.1;
+          config = config;
+          uses = t.uses;
+          mapped = ap (λ (x : code.Configs). x.mapped.items) t.others ∙ t.stands.machine.mapped;
+        })
+        (record {
+          names = subst (λ (x : code.Configs). AreNamesOf i.slots x.depth x.store s x.names) (sym t.others) t.stands.named.names;
+          rest = subst (λ (x : code.Configs). IsRest x.store.pairs x.names x.rest) (sym t.others) t.stands.named.rest;
+        }))
 
   module _ (at : ℕ) (within : at < length c.core.rows) (number : (slot_in c.core at).number ≡ step.slot) where
     inside : at < length later.rows
@@ -322,6 +358,19 @@ module _ (b : Before) (step : Step) (c : code.Configs) (t : HasTurned b step c) 
                   mapped = ap (λ x. x.items) mapped ∙ t.stands.machine.mapped;
                   count = t.before.pages ∙ ap (λ (m : Memory). length m.pages) t.stands.machine.memory;
                 }
+
+            -- the name of the rest is as it was if those of its parts are
+            pub rest_left : (c5 : code.Configs) → NotesMemory c4 c5 → record c5.names { slots = c2.names.slots } ≡ c2.names → IsRest c5.store.pairs c5.names c5.rest
+            rest_left c5 memory same =
+                let still = twice c1.store c2.store c5.store slots.still (twice c2.store c3.store c5.store queues.still (twice c3.store c4.store c5.store outputs.still memory.still)) in
+                let first : IsRest c1.store.pairs c1.names c1.rest = subst (λ (x : code.Configs). IsRest x.store.pairs x.names x.rest) (sym rest_1) t.stands.named.rest in
+                let later_first = rest_stays c1.store c5.store still c1.names c1.rest first in
+                let named_2 : c2.names ≡ record c1.names { slots = c2.names.slots } = ap (λ (x : code.Configs). x.names) slots.others in
+                let second : IsRest c5.store.pairs c2.names c1.rest = rest_alike c5.store.pairs c2.names (record c1.names { slots = c2.names.slots }) c1.rest named_2
+                (record { two = later_first.two; others = later_first.others; events = later_first.events; depth = later_first.depth; all = later_first.all }) in
+                let rest_5 : c5.rest ≡ c1.rest =
+                ap (λ (x : code.Configs). x.rest) memory.others ∙ ap (λ (x : code.Configs). x.rest) outputs.others ∙ ap (λ (x : code.Configs). x.rest) queues.others ∙ ap (λ (x : code.Configs). x.rest) slots.others in
+                subst (IsRest c5.store.pairs c5.names) (sym rest_5) (rest_alike c5.store.pairs c5.names c2.names c1.rest same second)
 
             -- all
             module _ (c5 c6 : code.Configs) (memory : NotesMemory c4 c5) (last : c6 ≡ record c5 { store = c6.store; rest = c6.rest }) (more : IsKeptStill c5.store c6.store)
