@@ -22,6 +22,7 @@ pub mod TurnMade
 pub mod ReadSlots
 pub mod ReadQueues
 pub mod StartNames
+pub mod Started
 pub mod Rising
 pub mod ChangedOutputs
 pub mod Revising

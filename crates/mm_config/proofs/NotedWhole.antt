@@ -126,6 +126,9 @@ module _ (b : Before) (step : Step) (c : code.Configs) (t : HasTurned b step c) 
     inside : at < length later.rows
     inside = subst (λ (k : Core). at < length k.rows) t.core within
 
+    at_within : at < length i.slots
+    at_within = let lt = inside in omega (arith, lt, rows_same, base_many)
+
     own : (slot_in later at).number ≡ (turn_of s t.item).step.slot
     own = ap (λ (k : Core). (slot_in k at).number) (sym t.core) ∙ number ∙ ap (λ (x : Step). x.slot) t.step
 
@@ -149,6 +152,9 @@ module _ (b : Before) (step : Step) (c : code.Configs) (t : HasTurned b step c) 
 
       pub base_1 : c1.base.items ≡ i.slots
       base_1 = ap (λ (x : code.Configs). x.base.items) rest_1 ∙ t.stands.base
+
+      pub in_base_1 : at < length c1.base.items
+      in_base_1 = subst (λ (l : List Slot). at < length l) (sym base_1) at_within
 
       -- there is a leaf for each slot
       long_base : length c1.base.items ≤ 2 ^ c1.depth
@@ -174,6 +180,9 @@ module _ (b : Before) (step : Step) (c : code.Configs) (t : HasTurned b step c) 
 
         pub base_2 : c2.base.items ≡ i.slots
         base_2 = ap (λ (x : code.Configs). x.base.items) slots.others ∙ base_1
+
+        pub in_base_2 : at < length c2.base.items
+        in_base_2 = subst (λ (l : List Slot). at < length l) (sym base_2) at_within
 
         bare_slot : (k : ℕ) → k < length s.core.rows → ((k ≡ at) ⊎ IsServedBy c1.base.items step.slot b.running k → ⊥) → slot_in bare k ≡ slot_in s.core k
         bare_slot k lt none =
@@ -262,6 +271,9 @@ module _ (b : Before) (step : Step) (c : code.Configs) (t : HasTurned b step c) 
               subst (AreLeaves (IsOutputName c3.store) s.core.outputs c3.store.pairs 6)
               (sym (ap (λ (x : code.Configs). x.names.outputs) queues.others ∙ ap (λ (x : code.Configs). x.names.outputs) slots.others))
               (leaves_stay_named (IsOutputName c1.store) (IsOutputName c3.store) (output_stays c1.store c3.store still) s.core.outputs c1.store.pairs c3.store.pairs still.pairs 6 c1.names.outputs names_1.outputs)
+
+          pub in_base_3 : at < length c3.base.items
+          in_base_3 = subst (λ (x : code.Configs). at < length x.base.items) (sym queues.others) in_base_2
 
           abbrev group : ℕ
           group = (slice_index_or c3.base.items at no_slot).group
