@@ -100,7 +100,7 @@ module _ (b : Before) (step : Step) (c : code.Configs) (t : HasTurned b step c) 
   pub nobody_stands : slot_at c.core step.slot ≡ None → Stands i (record t.at { machine = configuration (after s t.item) }) c
   nobody_stands none =
       let later_none : slot_at later (turn_of s t.item).step.slot ≡ None =
-      ap (λ (k : Core). slot_at k (turn_of s t.item).step.slot) (sym t.core) ∙ ap (λ (x : Step). slot_at c.core x.slot) (sym t.step) ∙ none in
+      ap (λ (k : Core). slot_at k (turn_of s t.item).step.slot) (sym t.core) ∙ ap (λ (x : Step). slot_at c.core x.slot) (sym t.shown) ∙ none in
       let before_none = missing_before s.core later before after_core (same_identities i s t.item t.stands.image config) (turn_of s t.item).step.slot later_none in
       let same = (frame i s t.item t.stands.image config).nobody before_none in
       subst (λ (x : State). Stands i (record t.at { machine = x }) c) (sym (nobody_turns s config.bare t.item (frame i s t.item t.stands.image config) before_none))
@@ -130,7 +130,7 @@ module _ (b : Before) (step : Step) (c : code.Configs) (t : HasTurned b step c) 
     at_within = let lt = inside in omega (arith, lt, rows_same, base_many)
 
     own : (slot_in later at).number ≡ (turn_of s t.item).step.slot
-    own = ap (λ (k : Core). (slot_in k at).number) (sym t.core) ∙ number ∙ ap (λ (x : Step). x.slot) t.step
+    own = ap (λ (k : Core). (slot_in k at).number) (sym t.core) ∙ number ∙ ap (λ (x : Step). x.slot) t.shown
 
     whole : IsCore bare
     whole = bare_core_whole i s t.item t.stands.image config at inside own
@@ -193,7 +193,7 @@ module _ (b : Before) (step : Step) (c : code.Configs) (t : HasTurned b step c) 
             slot_stays_in s.core later before after_core same c1.base.items at (turn_of s t.item).step.slot b.running (ap (map identity_of) base_1 ∙ base_same) first there
             (subst (λ (core : Core). (n : ℕ) → IsBitSet b.running n ↔ IsSomeAnd (slot_at core n) (λ x. x.state ≡ Running)) t.stands.machine.core t.before.running)
             (frame i s t.item t.stands.image config).slots k lt (λ e. none (inl e))
-            (λ h. none (inr (subst (λ n. IsServedBy c1.base.items n b.running k) (ap (λ (x : Step). x.slot) (sym t.step)) h))) in
+            (λ h. none (inr (subst (λ n. IsServedBy c1.base.items n b.running k) (ap (λ (x : Step). x.slot) (sym t.shown)) h))) in
             uncounted_in later k (omega (arith, lt, rows_same)) ∙ ap uncounted_slot stays
             ∙ sym (uncounted_in s.core k lt) ∙ ap (λ (core : Core). slot_in core k) bare_before
 
@@ -247,7 +247,7 @@ module _ (b : Before) (step : Step) (c : code.Configs) (t : HasTurned b step c) 
               let there : (slot_in s.core at).number ≡ (turn_of s t.item).step.slot = ap (λ x. x.0) (sym (identity_in s.core later before after_core alike at first)) ∙ own in
               queue_bare later k (omega (arith, lt, rows_same))
               ∙ queue_stays_in s.core later before after_core alike c2.base.items at (turn_of s t.item).step.slot (turn_of s t.item).step.tick (ap (map identity_of) base_2 ∙ base_same) first there
-              (frame i s t.item t.stands.image config).queues k lt (λ h. none (inl (subst (λ (x : Step). IsFaultHandler c2.base.items x.tick at k) (sym t.step) h)))
+              (frame i s t.item t.stands.image config).queues k lt (λ h. none (inl (subst (λ (x : Step). IsFaultHandler c2.base.items x.tick at k) (sym t.shown) h)))
               (elim (cases_eq k at) [
                 | inr ne ↦ inl ne
                 | inl e ↦ elim (cases_eq c3.names.queues 0) [
@@ -361,7 +361,7 @@ module _ (b : Before) (step : Step) (c : code.Configs) (t : HasTurned b step c) 
                 record {
                   memory = s.memory;
                   left = subst (λ (m : Memory). MemoryLeft s.memory m step.touched) (sym (ap (λ x. x.memory) mem ∙ t.memory))
-                      (subst (λ (x : Step). MemoryLeft s.memory (turn_of s t.item).memory x.touched) (sym t.step) (frame i s t.item t.stands.image config).memory);
+                      (subst (λ (x : Step). MemoryLeft s.memory (turn_of s t.item).memory x.touched) (sym t.shown) (frame i s t.item t.stands.image config).memory);
                   whole = paged_of i s config.state.state config.state.fits;
                   names = memory_alike c4.store s.memory c1.names c4.names
                       (ap (λ (x : code.Configs). x.names.height) outputs.others ∙ ap (λ (x : code.Configs). x.names.height) queues.others ∙ ap (λ (x : code.Configs). x.names.height) slots.others)

@@ -32,6 +32,6 @@ module _ (i : Image) (v : Configs) (was : code.Configs) (h : Stands i v was) whe
     core = core_is ∙ ap (λ (t : Turned). t.core) (own_turn item);
     memory = memory_is ∙ ap (λ (t : Turned). t.memory) (own_turn item);
     uses = omega (arith, uses);
-    step = step_is ∙ ap (λ (t : Turned). t.step) (own_turn item);
+    shown = step_is ∙ ap (λ (t : Turned). t.step) (own_turn item);
     others = refl;
   }

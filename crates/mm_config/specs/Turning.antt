@@ -55,7 +55,7 @@ pub record HasTurned (b : Before) (step : Step) (c : code.Configs) : Type 0 wher
   pub core : c.core ≡ (turn_of at.machine item).core
   pub memory : c.mem.memory ≡ (turn_of at.machine item).memory
   pub uses : c.mem.uses < 2 ^ 61
-  pub step : step ≡ (turn_of at.machine item).step
+  pub shown : step ≡ (turn_of at.machine item).step
   pub others : c ≡ record was { core = c.core; mem = c.mem }
 
 -- 2. Leaves.
