@@ -13,7 +13,7 @@ use Rattle.mm_config.specs.declared.{store.Store.Store, names.Names.Names}
 use Rattle.mm_config.specs.Naming.{AreMemoryNames}
 use Rattle.mm_config.specs.Noting.{IsKeptStill, HasOtherPages, HasOtherPage, IsWrittenAt, mapped_pages}
 use Rattle.mm_config.specs.Turning.{WasMemory, IsSameButWord, NotesPage, NotesMemory}
-use Rattle.mm_config.proofs.{Noted.{came, went, twice}, OwnCells.own_cell, PageLists.{Pages, numbers}}
+use Rattle.mm_config.proofs.{Noted.{came, went, twice}, OwnCells.own_cell, PageLists.numbers}
 
 -- what three clauses say of the same answer
 pub on_ok_three : {X E P Q R S : Type 0} (r : Result X E) → (P → Q → R → S) → OnOk r P → OnOk r Q → OnOk r R → OnOk r S
@@ -24,13 +24,13 @@ on_ok_three (Err e) f p q r = tt
 
 same_keys : (es : List (ℕ × List Cell)) (p : ℕ) (v : List Cell) → length (put nat_cmp p v es) ≡ length es → numbers (put nat_cmp p v es) ≡ numbers es
 same_keys [] p v long = absurd (omega (arith, long))
-same_keys (e ∷ es) p v long = by (nat_cmp p e.0) long
+same_keys (e ∷ es) p v long = by (nat_cmp p e.0) (λ rest. same_keys es p v rest) long
   where
-    by : (o : Ordering) → length (by_order o ((p, v) ∷ e ∷ es) ((e.0, v) ∷ es) (e ∷ put nat_cmp p v es)) ≡ length (e ∷ es)
+    by : (o : Ordering) → (length (put nat_cmp p v es) ≡ length es → numbers (put nat_cmp p v es) ≡ numbers es) → length (by_order o ((p, v) ∷ e ∷ es) ((e.0, v) ∷ es) (e ∷ put nat_cmp p v es)) ≡ length (e ∷ es)
         → numbers (by_order o ((p, v) ∷ e ∷ es) ((e.0, v) ∷ es) (e ∷ put nat_cmp p v es)) ≡ numbers (e ∷ es)
-    by Less long = absurd (omega (arith, long))
-    by Equal long = refl
-    by Greater long = ap (λ l. e.0 ∷ l) (same_keys es p v (omega (arith, long)))
+    by Less later long = absurd (omega (arith, long))
+    by Equal later long = refl
+    by Greater later long = ap (λ l. e.0 ∷ l) (later (omega (arith, long)))
 
 put_numbers : (m : Memory) (w : ℕ) (c : Cell) → ArePages m.pages → mapped_pages (put_cell m w c) ≡ mapped_pages m
 unfolding put_cell
