@@ -19,11 +19,15 @@ pub mod NotedRest
 pub mod NotedWhole
 pub mod ChangedLeaves
 pub mod Masked
+pub mod OneNote
+pub mod NotedMemory
+pub mod TurnMade
 pub mod ReadSlots
 pub mod Differing
 pub mod ReadQueues
 pub mod ReadOutputs
 pub mod StartNames
+pub mod Started
 pub mod Rising
 pub mod ChangedOutputs
 pub mod Revising
