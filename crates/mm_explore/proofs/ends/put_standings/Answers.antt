@@ -11,7 +11,7 @@ loop-at-preserved c =
     let slots : List Slot = slots_of c.args.core.now in
     let standings : List Standing = standings_of (flags (length slots) c.args.busy) slots in
     let read = standing_read slots c.args.busy c.loop-at.at c.nth-slot.result.now c.nth-slot.ensures in
-    let stands = standing_seen _ c.slot.inside c.nth-slot.result.now c.slot.view_is c.standing.result c.standing.ensures in
+    let stands = standing_seen _ c.slot.inside.state c.nth-slot.result.now.state (ap (λ (s : Slot). s.state) c.slot.view_is) c.standing.result c.standing.ensures in
     let there : slice_get (map standing_number standings) c.loop-at.at ≡ Some c.standing_number.result =
     slice_get-map standing_number standings c.loop-at.at ∙ ap (option_map standing_number) read ∙ ap (λ (n : ℕ). Some n) (sym (c.standing_number.ensures ∙ ap standing_number stands)) in
     one_item c.args.key.now.items c.loop-at.key.items c.push.new.self.items (map standing_number standings) c.loop-at.at c.standing_number.result c.loop-at.invariant there c.in_ok-push.ensures.items

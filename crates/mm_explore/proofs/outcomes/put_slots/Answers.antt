@@ -13,7 +13,7 @@ loop-at-preserved c =
     let numbers : List ℕ = map (λ (s : Slot). s.number) slots in
     let standings : List Standing = standings_of (flags (length slots) c.args.busy) slots in
     let s = c.nth-slot.result.now in
-    let read = standing_read slots c.args.busy c.loop-at.at s c.nth-slot.ensures ∙ ap (λ (x : Standing). Some x) (sym (standing_seen _ c.slot.inside s c.slot.view_is c.standing.result c.standing.ensures)) in
+    let read = standing_read slots c.args.busy c.loop-at.at s c.nth-slot.ensures ∙ ap (λ (x : Standing). Some x) (sym (standing_seen _ c.slot.inside.state s.state (ap (λ (x : Slot). x.state) c.slot.view_is) c.standing.result c.standing.ensures)) in
     let number = slice_get-map (λ (s : Slot). s.number) slots c.loop-at.at ∙ ap (option_map (λ (s : Slot). s.number)) c.nth-slot.ensures in
     one_item c.args.out.now.items c.loop-at.out.items c.push.new.self.items (zip numbers standings) c.loop-at.at (s.number, c.standing.result) c.loop-at.invariant
     (slice_get-zip_some numbers standings c.loop-at.at s.number c.standing.result number read)
