@@ -5,6 +5,7 @@ pub mod Taking
 pub mod Masks
 pub mod EventForms
 pub mod States
+pub mod Reached
 pub mod Zips
 pub mod Keys
 pub mod Staying
@@ -16,9 +17,17 @@ pub mod NextState
 pub mod OwnCells
 pub mod NotedRest
 pub mod NotedWhole
+pub mod ChangedLeaves
+pub mod Masked
+pub mod OneNote
+pub mod NotedMemory
+pub mod TurnMade
 pub mod ReadSlots
+pub mod Differing
 pub mod ReadQueues
+pub mod ReadOutputs
 pub mod StartNames
+pub mod Started
 pub mod Rising
 pub mod ChangedOutputs
 pub mod Revising

@@ -175,6 +175,7 @@ impl Configs {
             → AreApart (flags (length i.slots) mask) (slots_of (slice_index_or v.kept one v.machine).core)
             (slots_of (slice_index_or v.kept other v.machine).core)) }
     {
+        self.store.apart();
         let (slots, _) = self.kept.as_slice()[one];
         let (others, _) = self.kept.as_slice()[other];
         let mut changed = Vec::new(self.alloc);

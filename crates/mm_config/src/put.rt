@@ -1,9 +1,7 @@
 //! Putting the machine to a configuration: the parts whose names differ are read.
 
-ghost use Rattle.std.specs.Prelude.{◌≡◌, ◌<◌, ◌≤◌, ◌++◌, ℕ, List, [], IfOk, OnOk, length, take};
-ghost use Rattle.std.specs.List.{AllByRecursion};
+ghost use Rattle.std.specs.Prelude.{◌≡◌, ◌≤◌, [], IfOk, OnOk, length};
 ghost use Rattle.mm_config.specs.Forms.{slot_from};
-ghost use Rattle.mm_config.specs.Naming.{IsOutputName};
 ghost use Rattle.mm_config.specs.Noting.{mapped_pages};
 ghost use Rattle.mm_config.specs.Keeping.{Stands};
 ghost use Rattle.mm_config.specs.Reaching.{HasConfiguration, Reaches, HasPutCore, HasReadSlots, HasReadQueues, HasReadOutputs};
@@ -19,7 +17,7 @@ use crate::slot_form::take_slot;
 use crate::store::Store;
 use mm_mem::Inspect;
 use mm_model::Slot;
-use std::alloc::{AllocError, Global};
+use std::alloc::AllocError;
 
 impl Configs {
     /// Puts the machine to the configuration of these names: of the slots, and of the rest.
@@ -122,7 +120,7 @@ impl Configs {
         for (group, name) in self.changed.as_slice() {
             let was = self.store.pairs.leaf(self.names.outputs, GROUPS, *group);
             let len = self.core.output(*group as u8).len();
-            let (kept, bytes) = changed_output(self.alloc, &self.store, was, *name, len)?;
+            let (kept, bytes) = self.store.outputs.changed(self.alloc, was, *name, len)?;
             self.revision.outputs.push((*group as u8, kept, bytes))?;
         }
         Ok(())
@@ -147,36 +145,4 @@ fn read_slot(store: &Store, name: u32, base: &Slot, slot: &mut Slot)
     ensures { slot.new ≡ slot_from base.now (named [] store.now.lists name) }
 {
     take_slot(&mut Reader::new(store.lists.get(name)), base, slot);
-}
-
-/// How many bytes of an output stay when another takes its place, and the bytes of the other after these. The name of an
-/// output is greater than those of the shorter ones that it begins with.
-fn changed_output(
-    alloc: Global,
-    store: &Store,
-    was: u32,
-    wanted: u32,
-    len: usize,
-) -> Result<(usize, Vec<u8>), AllocError>
-    requires was { (old : List ℕ) × IsOutputName store.now old was × (len ≡ length old) }
-    requires wanted { (new : List ℕ) × IsOutputName store.now new wanted × AllByRecursion (λ byte. byte < 256) new }
-    ensures { IfOk result (λ r. (old new : List ℕ) → IsOutputName store.now old was → len ≡ length old → IsOutputName store.now new wanted
-        → (r.0 ≤ length old) × (take r.0 old ++ r.1.items ≡ new)) }
-{
-    let mut bytes = Vec::new(alloc);
-    let mut kept = len;
-    let mut was = was;
-    let mut wanted = wanted;
-    while was != wanted {
-        if was > wanted {
-            was = store.outputs.parts(was).0;
-            kept -= 1;
-        } else {
-            let (shorter, byte) = store.outputs.parts(wanted);
-            wanted = shorter;
-            bytes.push((byte - 1) as u8)?;
-        }
-    }
-    bytes.reverse();
-    Ok((kept, bytes))
 }

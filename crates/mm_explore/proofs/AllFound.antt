@@ -116,7 +116,7 @@ origin_inside list (Some x) (Some o) h = slice_get_within list o.from x.schedule
 
 -- 3. Outcomes.
 
-pub outcomes_are : (i : Image) (ends : List End) (out : List OutcomeFound) → out ≡ [] → (now : List OutcomeFound)
-    → now ≡ out ++ map (λ (e : End). outcome_found i (count_of ends e.outcome) e.outcome e.schedule) (firsts ends) → now ≡ outcomes_of i ends
+pub outcomes_are : (i : Image) (ends : List End) (now : List OutcomeFound)
+    → now ≡ map (λ (e : End). outcome_found i (count_of ends e.outcome) e.outcome e.schedule) (firsts ends) → now ≡ outcomes_of i ends
 unfolding outcomes_of
-outcomes_are i ends out none now is = is ∙ ap (λ l. l ++ map (λ (e : End). outcome_found i (count_of ends e.outcome) e.outcome e.schedule) (firsts ends)) none
+outcomes_are i ends now is = is

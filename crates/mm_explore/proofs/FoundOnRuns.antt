@@ -41,12 +41,6 @@ explores i list t n inside move =
     let make : ℕ → Extension = λ m. record { schedule = t; item = m } in
     in_flat (extensions i) list t (make n) inside (in_map make (moves (run (start i) t)) n move)
 
--- a schedule after which no item changes the configuration leaves a final one
-pub final_alike : (i : Image) (s t : List ℕ) → leads_to i t ≡ leads_to i s → ((m : ℕ) → Contains (moves (run (start i) s)) m → leads_to i (more s m) ≡ leads_to i s) → IsFinal i t
-final_alike i s t e rests m move =
-    let same = (alike i t s e).moves in
-    leads_alike i t s m e ∙ rests m (subst (λ l. Contains l m) same move) ∙ sym e
-
 module _ (i : Image) (list : List (List ℕ)) (t s : List ℕ) (inside : Contains list t) (e : leads_to i t ≡ leads_to i s) where
   abbrev there : State
   there = run (start i) s

@@ -4,7 +4,8 @@ use Rattle.std.proofs.Common.{◌∷◌, ◌++◌, map, length, take, slice_get,
 use Rattle.std.proofs.lemmas.List.{take_more, flat_map_more, take_all, length-map}
 use Rattle.std.proofs.lemmas.{Nat.and_mask, Option.{get_or_from_slice_get, slice_get_within, slice_get-get_or}}
 use Rattle.std.specs.List.{flat_map}
-use Rattle.mm_model.{specs.{Flags.flags, Slot.Slot}, proofs.FlagLists.flags-get}
+use Rattle.mm_model.{specs.{declared.slot.SlotState.SlotState, Fits.{slots_of, IsCore}, Flags.flags, Slot.Slot, State.{Core, ThreadRow}}, proofs.FlagLists.flags-get}
+use Rattle.mm_thread.proofs.RowIndex.{few_rows, small_numbers}
 use Rattle.mm_explore.specs.declared.explored.Standing.{Standing, TheVariants.{Busy, In}}
 use Rattle.mm_explore.{specs.Noting.standings_of, proofs.HeldEnds.flags_long}
 
@@ -50,3 +51,13 @@ pub standing_read : (slots : List Slot) (mask k : ℕ) (s : Slot) → slice_get 
 standing_read slots mask k s e =
     standing_at (flags (length slots) mask) slots k (mask / 2 ^ k % 2 == 1) s (flag_at (length slots) mask k (slice_get_within slots k s e)) e
     ∙ ap (λ (n : ℕ). let x : Standing = if n == 1 then Busy else In s.state in Some x) (sym (and_mask (mask / 2 ^ k) 1))
+
+pub standing_seen : (b : Bool) (s t : SlotState) → s ≡ t → (r : Standing) → r ≡ (if b then Busy else In s) → r ≡ (if b then Busy else In t)
+standing_seen b s t same r is = is ∙ ap (λ (x : SlotState). if b then Busy else In x) same
+
+-- a mask of the slots is shifted by no more than it has bits
+pub shift_fits : (core : Core) → IsCore core → (at : ℕ) → at < length (slots_of core) → at < 64
+shift_fits core whole at lt =
+    let few = few_rows core whole.formed.rising (small_numbers core whole) in
+    let same = length-map core.rows (λ (row : ThreadRow). row.slot) in
+    omega (arith, few, same, lt)

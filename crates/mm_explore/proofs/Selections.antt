@@ -58,10 +58,6 @@ module _ (P : List ℕ → Type 0) where
   select_more (s ∷ list) some t holds (inl h) = inl (h.0, (h.1.0 ++ t ∷ [], ap (λ l. l ++ t ∷ []) h.1.1, select_more list h.1.0 t holds h.1.2))
   select_more (s ∷ list) some t holds (inr h) = inr (h.0, select_more list some t holds h.1)
 
-  -- whatever holds of those of which something holds holds of those that are selected
-  pub each_selected : (Q : List ℕ → Type 0) (list some : List (List ℕ)) → Selects P list some → ((t : List ℕ) → Contains list t → P t → Q t) → AllByRecursion Q some
-  each_selected Q list some h all = all_of Q some (λ t inside. let k = is_selected list some h t inside in all t k.0 k.1)
-
 -- what stands behind an element of a list of which each pair stands in a relation
 pub pairs_behind : {X : Type 0} (R : X → X → Type 0) (front : List X) (x : X) (behind : List X) → EachPair R (front ++ x ∷ behind) → (y : X) → Contains behind y → R x y
 pairs_behind R [] x behind h y inside = all_at (R x) behind y h.0 inside

@@ -68,7 +68,7 @@ unfolding run
 run_then s [] ys = refl
 run_then s (x ∷ xs) ys = run_then (after s x) xs ys
 
-output_alike : (s t : State) (g : ℕ) → Rattle.mm_explore.specs.Configurations.configuration s ≡ Rattle.mm_explore.specs.Configurations.configuration t → output_of s.core g ≡ output_of t.core g
+output_alike : (s t : State) (g : ℕ) → Rattle.mm_config.specs.Configurations.configuration s ≡ Rattle.mm_config.specs.Configurations.configuration t → output_of s.core g ≡ output_of t.core g
 output_alike s t g e = let h = same_outputs s t (g ∷ []) e in cc
 
 -- 2. Members of a closed set.
@@ -219,7 +219,3 @@ outcome_slots i img t o h = standings_long i t 0 (slots_at i t) o.slots h.slots 
 
 pub outcome_outputs : (i : Image) (t : List ℕ) (o : Outcome) → IsOutcome i t o → length o.outputs ≡ length (groups_of (start i).core)
 outcome_outputs i t o h = ap length h.outputs ∙ Rattle.std.proofs.lemmas.List.length-map (groups_of (start i).core) (output_of (run (start i) t).core)
-
--- the ending of what is final, or endless
-pub final_not_endless : (i : Image) (t : List ℕ) (o : Outcome) → IsOutcome i t o → IsFinal i t → o.ending ≡ Endless → ⊥
-final_not_endless i t o h final e = (subst (IsEnding i t) e h.ending).1 final

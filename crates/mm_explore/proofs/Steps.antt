@@ -113,19 +113,19 @@ module _ (i : Image) (list : List (List ℕ)) (at k : ℕ) where
     is_here : slice_index_or (extensions i here) k turn_here ≡ turn_here
     is_here = map_at (λ m. let x : Extension = record { schedule = here; item = m } in x) (moves (run (start i) here)) k 0 turn_here move
 
-    within : k < length (extensions i here)
-    within = let e = long in omega (arith, e, move)
+    in_turns : k < length (extensions i here)
+    in_turns = let e = long in omega (arith, e, move)
 
     pub turns_next : turns_from i list at k ≡ turn_here ∷ turns_from i list at (k + 1)
     turns_next =
         let rest = flat_map (extensions i) (drop (at + 1) list) in
-        ap (λ l. l ++ rest) (drop_one (extensions i here) k turn_here within)
+        ap (λ l. l ++ rest) (drop_one (extensions i here) k turn_here in_turns)
         ∙ ap (λ (x : Extension). x ∷ (drop (k + 1) (extensions i here) ++ rest)) is_here
 
     pub turns_made : turns_before i list at (k + 1) ≡ turns_before i list at k ++ turn_here ∷ []
     turns_made =
         let front = flat_map (extensions i) (take at list) in
-        ap (λ l. front ++ l) (take_one (extensions i here) k turn_here within ∙ ap (λ (x : Extension). take k (extensions i here) ++ x ∷ []) is_here)
+        ap (λ l. front ++ l) (take_one (extensions i here) k turn_here in_turns ∙ ap (λ (x : Extension). take k (extensions i here) ++ x ∷ []) is_here)
         ∙ sym (append_assoc front (take k (extensions i here)) (turn_here ∷ []))
 
 module _ (i : Image) (list more : List (List ℕ)) (at : ℕ) (inside : at < length list) where
@@ -185,12 +185,12 @@ new_leads i list t none v inside same = none (subst (Contains (map (leads_to i) 
 
 pub record Grown (list now : List (List ℕ)) : Type 0 where
   pub more : List (List ℕ)
-  pub list : now ≡ list ++ more
+  pub grows : now ≡ list ++ more
 
 grown : (i : Image) (limit : ℕ) (looked : Looked) (o : Origin) (list now : List (List ℕ)) → Looks i limit looked o list now → Grown list now
-grown i limit (Known c) o list now h = record { more = []; list = h.1 ∙ sym (append-nil list) }
-grown i limit New o list now h = record { more = led_by list o ∷ []; list = h.2 }
-grown i limit Full o list now h = record { more = []; list = h.2 ∙ sym (append-nil list) }
+grown i limit (Known c) o list now h = record { more = []; grows = h.1 ∙ sym (append-nil list) }
+grown i limit New o list now h = record { more = led_by list o ∷ []; grows = h.2 }
+grown i limit Full o list now h = record { more = []; grows = h.2 ∙ sym (append-nil list) }
 
 -- the schedule at an index leads to the configuration there
 pub record HasConfig (i : Image) (list : List (List ℕ)) (c : ℕ) (s : State) : Type 0 where
@@ -380,17 +380,17 @@ module _ (i : Image) (s : Search) (at k : ℕ) (w : IsWithin i s at k) (move : k
     more = grown i s.limit met.looked (record { from = at; item = slice_index_or s.moves.items k 0 }) s.found mid.found met.looks
 
     same_schedule : schedule_at mid at ≡ u
-    same_schedule = ap (λ l. slice_index_or l at []) more.list ∙ same_here i s.found more.more at w.inside
+    same_schedule = ap (λ l. slice_index_or l at []) more.grows ∙ same_here i s.found more.more at w.inside
 
     same_turns : turns_before i mid.found at (k + 1) ≡ turns_before i s.found at k ++ x ∷ []
-    same_turns = ap (λ l. turns_before i l at (k + 1)) more.list ∙ before_more i s.found more.more at w.inside (k + 1) ∙ made
+    same_turns = ap (λ l. turns_before i l at (k + 1)) more.grows ∙ before_more i s.found more.more at w.inside (k + 1) ∙ made
 
     same_past : take at mid.found ≡ take at s.found
-    same_past = ap (take at) more.list ∙ same_front i s.found more.more at w.inside
+    same_past = ap (take at) more.grows ∙ same_front i s.found more.more at w.inside
 
     longer : at < length mid.found
     longer =
-        let long = ap length more.list in
+        let long = ap length more.grows in
         let both = length-append s.found more.more in
         let low = w.inside in
         omega (arith, long, both, low)
@@ -405,7 +405,7 @@ module _ (i : Image) (s : Search) (at k : ℕ) (w : IsWithin i s at k) (move : k
         let m = slice_index_or s.moves.items k 0 in
         subst (λ l. AllZip (IsChild i mid.found u) l (s.children.items ++ c ∷ [])) (sym (take_one s.moves.items k 0 move))
         (zip_push (IsChild i mid.found u) (take k s.moves.items) s.children.items m c
-        (subst (λ l. AllZip (IsChild i l u) (take k s.moves.items) s.children.items) (sym more.list) (children_more i s.found more.more u (take k s.moves.items) s.children.items (w.children e)))
+        (subst (λ l. AllZip (IsChild i l u) (take k s.moves.items) s.children.items) (sym more.grows) (children_more i s.found more.more u (take k s.moves.items) s.children.items (w.children e)))
         (child_of i s.limit met.looked c u m (record { from = at; item = m }) s.found mid.found refl met.looks (is ∙ met.child)))
 
     -- a search that has only what the look-up left, and where the move leads
@@ -426,12 +426,12 @@ module _ (i : Image) (s : Search) (at k : ℕ) (w : IsWithin i s at k) (move : k
               (ap (all_after s.all) (sym met.child) ∙ sym is_all)
               (comes_to i w.come.image s.limit s.found mid.found at k w.inside x (record { from = at; item = slice_index_or s.moves.items k 0 }) refl ahead made met.looked s.all w.come.goes met.looks);
           noted = subst (λ d. Noted i mid.found d f) (sym same_turns)
-              (subst (λ l. Noted i l (turns_before i s.found at k ++ x ∷ []) f) (sym more.list)
+              (subst (λ l. Noted i l (turns_before i s.found at k ++ x ∷ []) f) (sym more.grows)
               (noted_more i s.found more.more (turns_before i s.found at k ++ x ∷ []) f noted));
           ended = subst (λ p. Ended i mid.found p f) (sym same_past)
-              (subst (λ l. Ended i l (take at s.found) f) (sym more.list) (ended_more i s.found more.more (take at s.found) f ended));
+              (subst (λ l. Ended i l (take at s.found) f) (sym more.grows) (ended_more i s.found more.more (take at s.found) f ended));
           graph = λ e. subst (λ p. IsGraph i mid.found p s.graph) (sym same_past)
-              (subst (λ l. IsGraph i l (take at s.found) s.graph) (sym more.list)
+              (subst (λ l. IsGraph i l (take at s.found) s.graph) (sym more.grows)
               (graph_more i s.found more.more (take at s.found) s.graph (w.come.graph (was_all child (sym is_all ∙ e)))));
         };
         children = λ e. subst (λ t. AllZip (IsChild i mid.found t) (take (k + 1) s.moves.items) row.items) (sym same_schedule)
@@ -502,10 +502,6 @@ ended_one i list past t o f g e final is noted = record {
 -- an item that is read is that of its index
 pub item_is : (xs : List ℕ) (k x : ℕ) → k < length xs → x ≡ slice_index_or xs k x → x ≡ slice_index_or xs k 0
 item_is xs k x lt e = e ∙ at_any xs k 0 x lt
-
-pub if_more : {A E : Type 0} {P Q : A → Type 0} (r : Result A E) → ((x : A) → P x → Q x) → IfOk r P → IfOk r Q
-if_more (Ok x) f h = f x h
-if_more (Err e) f h = tt
 
 -- 7. All moves of a node.
 
@@ -733,17 +729,3 @@ module _ (i : Image) (s : Search) (o : Origin) (at : IsAt i s.found (led_by s.fo
     child = ap (λ (n : ℕ). Some n) at_end;
     rest = refl;
   }
-
--- 10. What calls answer.
-
-pub both_ok : {A E : Type 0} (P Q : Type 0) (r : Result A E) → OnOk r P → OnOk r Q → OnOk r (P × Q)
-both_ok P Q (Ok x) p q = (p, q)
-both_ok P Q (Err e) p q = tt
-
--- a list is empty
-pub none_so : (b : Bool) (xs ys : List ℕ) → xs ≡ ys → b ≡ (length xs == 0) → b ≡ are_none ys
-none_so b xs ys e h = h ∙ by xs ∙ ap are_none e
-  where
-    by : (zs : List ℕ) → (length zs == 0) ≡ are_none zs
-    by [] = refl
-    by (z ∷ zs) = eqb-suc-zero (length zs)

@@ -108,10 +108,6 @@ firsts_more seen (u ∷ ts) t = by (firsts_more seen ts t) (firsts_more (u.outco
         ∙ ap (λ l. u ∷ firsts_after (u.outcome ∷ seen) ts ++ l)
         (regroup (same t u) (seen_as t seen) (list_any (same t) (firsts_after (u.outcome ∷ seen) ts)) t)
 
-pub firsts_with : (ts : List End) (t : End) → firsts (ts ++ t ∷ []) ≡ firsts ts ++ new_after (list_any (same t) (firsts ts)) t
-unfolding firsts
-firsts_with ts t = firsts_more [] ts t
-
 -- a schedule is not the same as another of an outcome that was not seen
 seen_differs : (t u : End) (seen : List Outcome) → seen_as u seen ≡ true → seen_as t seen ≡ false → same t u ≡ false
 seen_differs t u seen there none = elim (cases_Bool (same t u)) [

@@ -1,21 +1,6 @@
--- Configurations: states without their counts; and the moves of a state.
+-- The moves of a state.
 use Rattle.std.specs.{Prelude.{ℕ, ◌+◌, Bool, true, false, if◌then◌else◌, List, [], ◌∷◌, ◌++◌, map}, List.filter}
-use Rattle.mm_model.specs.{declared.slot.Pending.Pending, Slot.Slot, State.{ThreadRow, Core, State}, Turn.is_running}
-
--- a slot with no count of turns
-abbrev pub uncounted_slot : Slot → Slot
-uncounted_slot s = record s { turns = 0 }
-
-abbrev pub uncounted_row : ThreadRow → ThreadRow
-uncounted_row row = record row { slot = uncounted_slot row.slot }
-
-abbrev pub uncounted : Core → Core
-uncounted core = record core { rows = map uncounted_row core.rows }
-
--- the configuration of a state: the state without its count of cycles and without its slots' counts of turns, which
--- are all 0 in it
-unfoldable pub configuration : State → State
-configuration s = record { core = uncounted s.core; memory = s.memory; cycles = 0 }
+use Rattle.mm_model.specs.{declared.slot.Pending.Pending, State.{ThreadRow, State}, Turn.is_running}
 
 abbrev pub runs : ThreadRow → Bool
 runs row = is_running row.slot.state

@@ -66,9 +66,6 @@ abbrev pub standing_number : Standing → ℕ
 standing_number Busy = 0
 standing_number (In state) = 1 + state_number state
 
-abbrev pub same_state : SlotState → SlotState → Bool
-same_state a b = state_number a == state_number b
-
 abbrev pub same_outcome : Outcome → Outcome → Bool
 same_outcome a b =
     ending_number a.ending == ending_number b.ending

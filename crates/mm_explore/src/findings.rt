@@ -20,7 +20,7 @@ use crate::ends::{End, Tally, count_end, outcome_key};
 use crate::explored::{Explored, FaultFound};
 use crate::faults::{note_fault, put_faults};
 use crate::found::{Found, Origin};
-use crate::outcomes::put_outcomes;
+use crate::outcomes::list_outcomes;
 use crate::reached::{Words, put_groups};
 use crate::search::Made;
 use indexmap::IndexMap;
@@ -128,16 +128,7 @@ impl Findings {
         put_groups(alloc, &mut reached, &self.words, groups)?;
         let mut faults = Vec::new(alloc);
         list_faults(alloc, &mut faults, &self.faults, img.slots(), found)?;
-        let mut outcomes = Vec::new(alloc);
-        put_outcomes(
-            alloc,
-            &mut outcomes,
-            &self.ends,
-            img,
-            groups,
-            found,
-            configs,
-        )?;
+        let outcomes = list_outcomes(alloc, &self.ends, img, groups, found, configs)?;
         Ok(Explored {
             count: found.len() as u64,
             all,

@@ -91,29 +91,28 @@ fn outcome(
     })
 }
 
-/// Appends the outcomes, in their order. The groups are those that have a slot.
-pub(crate) fn put_outcomes(
+/// The outcomes, in their order. The groups are those that have a slot.
+pub(crate) fn list_outcomes(
     alloc: Global,
-    out: &mut Vec<OutcomeFound>,
     ends: &IndexMap<Vec<u64>, Tally>,
     img: &Image,
     groups: &[u8],
     found: &Found,
     configs: &mut Configs,
-) -> Result<(), AllocError>
+) -> Result<Vec<OutcomeFound>, AllocError>
     requires image { IsImage img.now }
     requires groups { groups.now ≡ groups_of (start img.now).core }
     requires kept { HasKept img.now found.now configs.old }
     requires ends { (all : List EndValue) × (some : List EndValue)
         × AllZip (λ e entry. IsKeptEnd img.now found.now all e entry.0.items entry.1) some ends.now.entries }
-    ensures { OnOk result ((all some : List EndValue)
+    ensures { IfOk result (λ outcomes. (all some : List EndValue)
         → AllZip (λ e entry. IsKeptEnd img.now found.now all e entry.0.items entry.1) some ends.now.entries
-        → out.new.items ≡ out.old.items
-        ++ map (λ e. outcome_found img.now (count_of all e.outcome) e.outcome e.schedule) some) }
+        → outcomes.items ≡ map (λ e. outcome_found img.now (count_of all e.outcome) e.outcome e.schedule) some) }
 {
+    let mut outcomes = Vec::new(alloc);
     for (_, tally) in ends.iter() {
         let outcome = outcome(alloc, img, groups, found, configs, *tally)?;
-        out.push(outcome)?;
+        outcomes.push(outcome)?;
     }
-    Ok(())
+    Ok(outcomes)
 }

@@ -132,18 +132,9 @@ pub fn explore(alloc: Global, img: &Image, states: u32) -> Result<Explored, NoMe
     ensures { IfOk result (λ e. Finds img.now states e) }
 {
     let mut search = Search::new(alloc, img, states)?;
-    search.run(alloc, img)?;
-    search.note_endless(alloc, img)?;
-    Ok(
-        search.findings.explored(
-            alloc,
-            img,
-            &search.groups,
-            &search.found,
-            &mut search.configs,
-            search.all,
-        )?,
-    )
+    let explored = search.explored(alloc, img);
+    drop(search);
+    Ok(explored?)
 }
 
 impl Search {
@@ -170,6 +161,23 @@ impl Search {
             limit: states as usize,
             all: true,
         })
+    }
+
+    /// What is found, from the configuration of the image's start on.
+    fn explored(&mut self, alloc: Global, img: &Image) -> Result<Explored, AllocError>
+        requires { IsBefore img.now self.old 0 }
+        ensures { IfOk result (λ e. Finds img.now self.old.limit e) }
+    {
+        self.run(alloc, img)?;
+        self.note_endless(alloc, img)?;
+        self.findings.explored(
+            alloc,
+            img,
+            &self.groups,
+            &self.found,
+            &mut self.configs,
+            self.all,
+        )
     }
 
     /// Goes through the configurations in the order in which they are found.
@@ -277,8 +285,8 @@ impl Search {
             from: at as u32,
             item: self.moves[k],
         };
-        let made = self.turn(img, at, origin.item)?;
-        self.findings.note(&made, origin)?;
+        let Made { step, group } = self.turn(img, at, origin.item)?;
+        self.findings.note(&Made { step, group }, origin)?;
         match self.meet(img, origin)? {
             Some(child) => {
                 self.children.push(child)?;

@@ -1,4 +1,4 @@
-use Rattle.std.proofs.Common.{◌≡◌, ◌++◌, ℕ, List, length, map, slice_get, Some, sym, ap, ◌∙◌, arith}
+use Rattle.std.proofs.Common.{◌≡◌, ◌++◌, ℕ, List, length, map, slice_get, slice_index_or, Some, ap, ◌∙◌, arith}
 use Rattle.std.proofs.lemmas.{List.length-map, Option.{slice_get-map, slice_get-get_or}}
 use Rattle.std.specs.Prelude.{option_map}
 use Rattle.mm_model.specs.State.{output_of}
@@ -10,8 +10,9 @@ loop-group-preserved c =
     let core = c.args.core.now in
     let groups = c.args.groups.now in
     let l = c.loop-group in
-    let g = c.loop-group-item.result in
-    let there : slice_get groups l.group-index ≡ Some g = slice_get-get_or groups l.group-index g (omega arith) ∙ ap (λ (n : ℕ). Some n) (sym c.loop-group-item.is) in
+    let g = slice_index_or groups l.group-index 0 in
+    let lt = c.loop-group-test.true in
+    let there : slice_get groups l.group-index ≡ Some g = slice_get-get_or groups l.group-index 0 lt in
     let output = slice_get-map (output_of core) groups l.group-index ∙ ap (option_map (output_of core)) there in
     some_items bytes_form c.args.key.now.items l.key.items c.put_output.new.key.items (map (output_of core) groups) l.group-index (output_of core g)
     l.invariant output (c.in_ok-put_output.ensures ∙ ap (λ bytes. l.key.items ++ bytes_form bytes) c.output.ensures.bytes)

@@ -1,4 +1,4 @@
-use Rattle.std.proofs.Common.{◌≡◌, ◌++◌, ◌∷◌, [], ℕ, List, length, map, zip, slice_get, Some, sym, ap, ◌∙◌, arith}
+use Rattle.std.proofs.Common.{◌≡◌, ◌++◌, ◌∷◌, [], ℕ, List, length, map, zip, slice_get, slice_index_or, Some, ap, ◌∙◌, arith}
 use Rattle.std.proofs.lemmas.{List.length-map, Option.{slice_get-map, slice_get-get_or}, Slice.Zip.length-zip}
 use Rattle.std.specs.Prelude.{option_map}
 use Rattle.indexmap.proofs.ReorderLemmas.{slice_get-zip_some}
@@ -13,8 +13,9 @@ loop-group-preserved c =
     let groups = c.args.groups.now in
     let outputs : List (List ℕ) = map (output_of core) groups in
     let l = c.loop-group in
-    let g = c.loop-group-item.result in
-    let there : slice_get groups l.group-index ≡ Some g = slice_get-get_or groups l.group-index g (omega arith) ∙ ap (λ (n : ℕ). Some n) (sym c.loop-group-item.is) in
+    let g = slice_index_or groups l.group-index 0 in
+    let lt = c.loop-group-test.true in
+    let there : slice_get groups l.group-index ≡ Some g = slice_get-get_or groups l.group-index 0 lt in
     let output = slice_get-map (output_of core) groups l.group-index ∙ ap (option_map (output_of core)) there in
     let both = slice_get-map as_output (zip groups outputs) l.group-index ∙ ap (option_map as_output) (slice_get-zip_some groups outputs l.group-index g (output_of core g) there output) in
     one_item c.args.out.now.items l.out.items c.push.new.self.items (map as_output (zip groups outputs)) l.group-index (as_output (g, output_of core g))

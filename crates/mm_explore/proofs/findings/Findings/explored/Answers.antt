@@ -13,8 +13,8 @@ list_faults-requires c = λ key.
     let list = c.args.found.now in
     origin_inside list (first_in i (explored_turns i list) key.0 key.1) (get order c.args.self.now.faults key) (c.requires.noted.faults key.0 key.1)
 
-pub put_outcomes-requires-clause-ends : goal.put_outcomes-requires-clause-ends
-put_outcomes-requires-clause-ends c = (c.requires.ends.0, firsts c.requires.ends.0, c.requires.ends.1.entries)
+pub list_outcomes-requires-clause-ends : goal.list_outcomes-requires-clause-ends
+list_outcomes-requires-clause-ends c = (c.requires.ends.0, firsts c.requires.ends.0, c.requires.ends.1.entries)
 
 pub returns : goal.returns
 returns c = λ limit ends explored is_all is_more noted are.
@@ -39,5 +39,5 @@ returns c = λ limit ends explored is_all is_more noted are.
           ∙ faults_found i list (λ slot cause. get order f.faults (slot, cause)) words.faults;
       ends = ends;
       are = are;
-      outcomes = outcomes_are i ends c.new-outcomes.result.items c.new-outcomes.ensures.items _ (c.in_ok-put_outcomes.ensures ends (firsts ends) noted.entries);
+      outcomes = outcomes_are i ends _ (c.in_ok-outcomes.ensures ends (firsts ends) noted.entries);
     }

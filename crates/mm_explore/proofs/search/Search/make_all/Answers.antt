@@ -1,5 +1,5 @@
-use Rattle.std.{proofs.Common.{◌<◌, ◌&&◌, List, Vec, ℕ, Global, length, take, sym, ap, ◌∙◌, subst, slice_index_or, arith}, specs.Prelude.Contains}
-use Rattle.mm_explore.specs.Searching.{schedule_at, AllStay}
+use Rattle.std.{proofs.Common.{◌≡◌, ◌+◌, ◌<◌, ◌&&◌, List, Vec, ℕ, Global, length, take, sym, ap, ◌∙◌, subst, slice_index_or, arith}, specs.Prelude.Contains}
+use Rattle.mm_explore.specs.Searching.{IsWithin, schedule_at, AllStay}
 use Rattle.mm_explore.proofs.Steps.{take_one, take_whole, move_inside, stay_more}
 use Rattle.mm_explore.proofs.search.Search.make_all.Goals as goal
 
@@ -15,7 +15,7 @@ loop-k-preserved c =
     let i = c.args.img.now in
     let at = c.args.at in
     let l = c.loop-k in
-    let made = c.in_ok-stays.ensures in
+    let made = c.in_ok-stays.ensures.makes in
     let items = l.self.moves.items in
     let lt = c.loop-k-test.true in
     let end = c.len-k-end.ensures in
@@ -32,4 +32,16 @@ loop-k-preserved c =
     }
 
 pub returns : goal.returns
-returns c = ?
+returns c =
+    let l = c.loop-k in
+    let items = l.self.moves.items in
+    let test = c.loop-k-test.false in
+    let most = l.auto.k-end in
+    let end = c.len-k-end.ensures in
+    let same = ap (λ (v : Vec ℕ Global). length v.items) l.invariant.moves in
+    let all : l.k ≡ length items = omega (arith, test, most, end, same) in
+    record {
+      within = subst (IsWithin c.args.img.now l.self c.args.at) all l.invariant.within;
+      limit = l.invariant.limit;
+      stay = subst (AllStay l.stay c.args.img.now (schedule_at l.self c.args.at)) (take_whole items l.k (sym all)) l.invariant.stay;
+    }

@@ -25,7 +25,7 @@ returns-in_ok-slots-in-Some c =
     (λ is. subst (AreSetsSeen c.args.img.now list (take (c.args.at + 1) list)) (sym is)
     (member_other c.args.img.now c.args.self.now r.come r.all c.args.at r.inside c.args.sets.now r.sets c.args.busy.now.entries r.seen c.in-Some.first c.in-Some.ensures
     c.if-first-at.true c.in_ok-slots-in-Some.slots
-    (are_apart c.args.img.now r.come.image list c.in-Some.first c.args.at
+    (are_apart c.args.img.now list r.come.image c.in-Some.first c.args.at
     (first_low c.args.img.now c.args.self.now r.come r.all c.args.at r.inside c.args.sets.now r.sets c.in-Some.first c.in-Some.ensures) r.inside
     r.come.kept.machine c.in_ok-slots-in-Some.slots (c.in_ok-slots-in-Some.ensures c.args.img.now _ r.come.kept.stands))))
     c.add.ensures
