@@ -16,7 +16,7 @@ from mm.lsp.frames import read_message, write_message
 from mm.machine.program import CHECKOUT
 
 FOLDER = os.path.join(CHECKOUT, "mm", "tests", "sessions")
-TOP, SECONDS = "@TOP", 60
+TOP, SECONDS = "@TOP", 300
 Json = Any
 
 
