@@ -460,7 +460,7 @@ module _ (b : Before) (step : Step) (c : code.Configs) (t : HasTurned b step c) 
               depth_2 : c6.depth ≡ c2.depth
               depth_2 = depth_1 ∙ sym (ap (λ (x : code.Configs). x.depth) slots.others)
 
-              next : State
+              abbrev pub next : State
               next = configuration (after s t.item)
 
               named : AreNamesOf i.slots c6.depth c6.store next c6.names
