@@ -55,8 +55,10 @@ index-slot-requires c =
     let low = c.in-Some.ensures.within in
     let rows = slots_long me.core in
     let within : at < length me.core.rows = omega (arith, low, rows) in
-    in_base_3 c.args.before c.args.step.now me c.requires at within c.in-Some.ensures.number (record me { core = c.uncount.new.self }) (ap (λ (k : Core). record me { core = k }) c.uncount.ensures)
-    c.note_slots.new.self c.in_ok-note_slots.ensures c.note_queues.new.self c.in_ok-note_queues.ensures
+    let inside = in_base_3 c.args.before c.args.step.now me c.requires at within c.in-Some.ensures.number (record me { core = c.uncount.new.self }) (ap (λ (k : Core). record me { core = k }) c.uncount.ensures)
+    c.note_slots.new.self c.in_ok-note_slots.ensures c.note_queues.new.self c.in_ok-note_queues.ensures in
+    let long = c.note_queues.new.self.base.ok.0 in
+    omega (arith, inside, long)
 
 pub note_output-requires : goal.note_output-requires
 note_output-requires c =
