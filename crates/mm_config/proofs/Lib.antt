@@ -5,6 +5,7 @@ pub mod Taking
 pub mod Masks
 pub mod EventForms
 pub mod States
+pub mod Reached
 pub mod Zips
 pub mod Keys
 pub mod Staying
@@ -19,8 +20,12 @@ pub mod NotedWhole
 pub mod OneNote
 pub mod NotedMemory
 pub mod TurnMade
+pub mod ChangedLeaves
+pub mod Masked
 pub mod ReadSlots
+pub mod Differing
 pub mod ReadQueues
+pub mod ReadOutputs
 pub mod StartNames
 pub mod Started
 pub mod Rising

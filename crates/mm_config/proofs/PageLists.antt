@@ -205,8 +205,8 @@ pub fewer : (es fs : Pages) → T (is_sorted nat_cmp es) → T (is_sorted nat_cm
 fewer [] fs up rise all = omega arith
 fewer (e ∷ es) [] up rise all = let none = all e.0 (ap is_some (find_here e.0 e es refl)) in cc
 fewer (e ∷ es) (f ∷ fs) up rise all =
-    let tail = both_parts _ _ up in
-    let behind = both_parts _ _ rise in
+    let tail : T (below_all nat_cmp e.0 es) × T (is_sorted nat_cmp es) = both_parts _ _ up in
+    let behind : T (below_all nat_cmp f.0 fs) × T (is_sorted nat_cmp fs) = both_parts _ _ rise in
     let in_rest : (q : ℕ) → q ≢ f.0 → is_some (find nat_cmp q (e ∷ es)) ≡ true → is_some (find nat_cmp q fs) ≡ true =
     λ q ne some. ap is_some (sym (find_later q f fs ne)) ∙ all q some in
     elim (cases_order e.0 f.0) [

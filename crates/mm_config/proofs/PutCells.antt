@@ -137,6 +137,10 @@ unmapped_page old new number memory uses = by (is_mapped old.memory number) refl
 
 -- The cells from which a page begins, and those that are wanted.
 
+pub known_within : (k : Store) (o : Option (List Cell)) (name : ℕ) → IsOrNone (IsPageName k) o name → name ≤ length k.pairs
+known_within k None name h = omega (arith, h)
+known_within k (Some cells) name h = h.is.within
+
 pub page_cells : (k : Store) (cells : List Cell) (page : ℕ) (parts : ℕ × ℕ) → IsPageName k cells page → parts ≡ pair_of k.pairs page → AreCells k 9 parts.1 cells
 page_cells k cells page parts h are = subst (λ t. AreCells k 9 t cells) (ap (λ (p : ℕ × ℕ). p.1) (sym (are ∙ h.is.is))) h.named
 

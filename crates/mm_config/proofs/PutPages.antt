@@ -6,10 +6,11 @@ use Rattle.std.specs.{Ordering.nat_cmp, List.AllByRecursion, FinMap.{find, is_so
 use Rattle.mm_word.specs.declared.word.Cell.{Cell}
 use Rattle.mm_model.specs.Memory.{Memory, page_at, is_mapped, can_map, IsPage, IsPaged}
 use Rattle.mm_mem.specs.Plain.{Plain}
-use Rattle.mm_pairs.{specs.{Named.{HasGrown, IsNameOf}, Trees.{changed, leaves}}, proofs.Names.length_leaves}
+use Rattle.mm_pairs.{specs.{Named.{HasGrown, IsNameOf}, Trees.{changed, leaves}}, proofs.Names.{length_leaves, grown_twice, tree_stays}}
+use Rattle.std.proofs.Math.Seq.{take-length}
 use Rattle.mm_config.specs.declared.{store.Store.Store, names.Names.Names, put_memory.Changes.Changes}
-use Rattle.mm_config.specs.{Naming.{AreMemoryNames, IsPageName, IsOrNone, leaf_at, page_name}, Noting.{HasMoreCells, IsSameTree}, Places.page_place, Putting.{IsOnWay, HasPages, HasPut, CanPut, IsPutSoFar, old_pages, new_pages}}
-use Rattle.mm_config.proofs.{NamedOnce.{pages_tell, not_none}, PageLists.{fewer_by_one, find_later}, Placing.place_tells, Noted.{or_none, still_more}, PageTrees.leaf_stays}
+use Rattle.mm_config.specs.{Naming.{AreMemoryNames, IsPageName, IsOrNone, leaf_at, page_name}, Noting.{HasMoreCells, IsSameTree}, Places.{page_place, HaveOnePlace}, Putting.{IsOnWay, HasPages, HasPut, CanPut, IsPutSoFar, old_pages, new_pages}}
+use Rattle.mm_config.proofs.{NamedOnce.{pages_tell, not_none}, PageLists.{fewer_by_one, find_later}, Placing.place_tells, Noted.{or_none, still_more, memory_more}, PageCells.more_pairs, PageTrees.leaf_stays}
 use Rattle.mm_config.proofs.Walks.{change_is, change_at, begins, made, same_way, arrived, up_to}
 
 -- 1. Names of pages.
@@ -254,6 +255,30 @@ module _ (k : Store) (c : Changes) (old : Plain) (can : CanPut k old c) where
         let room = lt-ltb (length new.memory.pages) new.memory.frames (omega (arith, less, fit, frames, now)) in
         ap (λ (o : Option (List Cell)). not (is_some o) && nat_lt (length new.memory.pages) new.memory.frames) absent ∙ room
 
+  page_wanted : (o : Option (List Cell)) (name : ℕ) → name ≢ 0 → IsOrNone (IsPageName k) o name → (cells : List Cell) × IsPageName k cells name
+  page_wanted None name some h = absurd (some h)
+  page_wanted (Some cells) name some h = (cells, h)
+
+  -- what putting a page asks
+  pub record MayPut (new : Plain) (at before page : ℕ) : Type 0 where
+    pub small : at < 2 ^ 42
+    pub known : IsOrNone (IsPageName k) (page_at new.memory at) before
+    pub room : before ≡ 0 → can_map new.memory at ≡ true
+    pub wanted : (cells : List Cell) × IsPageName k cells page
+
+  pub may_put : (n : ℕ) (new : Plain) (so : IsPutSoFar k c (λ index name. (name ≡ 0) ⊎ (index < n)) old new) (e : ℕ × ℕ) (got : slice_get c.list.now n ≡ Some e) → e.1 ≢ 0 → IsPaged new.memory
+      → (at before : ℕ) → at ≡ slice_index_or k.pages e.0 0 → before ≡ slice_index_or was e.0 0 → MayPut new at before e.1
+  may_put n new so e got some paged at before is from =
+      let page = page_of_change n e got in
+      let name : slice_index_or names (page_place k.pages (slice_index_or k.pages e.0 0)) 0 ≡ e.1 = ap (λ p. slice_index_or names p 0) page.place ∙ sym page.name in
+      let known = not_yet (λ index name. (name ≡ 0) ⊎ (index < n)) (λ index name. ⊥) new so n e got (not_made n new so e got some) in
+      record {
+        small = subst (λ q. q < 2 ^ 42) (sym is) page.small;
+        known = subst (λ q. IsOrNone (IsPageName k) (page_at new.memory q) before) (sym is) (subst (IsOrNone (IsPageName k) (page_at new.memory (slice_index_or k.pages e.0 0))) (sym from) known);
+        room = λ none. subst (λ q. can_map new.memory q ≡ true) (sym is) (has_frame n new so e got some (sym from ∙ none) paged);
+        wanted = page_wanted (page_at can.wanted (slice_index_or k.pages e.0 0)) e.1 some (subst (IsOrNone (IsPageName k) (page_at can.wanted (slice_index_or k.pages e.0 0))) name (can.names.pages (slice_index_or k.pages e.0 0)));
+      }
+
   -- 5. All changes are made.
 
   pub all_put : (D : ℕ → ℕ → Type 0) (new : Plain) → IsPutSoFar k c D old new → ((j : ℕ) (e : ℕ × ℕ) → slice_get c.list.now j ≡ Some e → D j e.1) → IsPaged new.memory
@@ -281,3 +306,43 @@ raised_pages k k2 mid m n height tree h raised grown more = record {
 
     same : (p : ℕ) → leaf_at k2.pairs height tree p ≡ leaf_at k.pairs n.height n.pages p
     same p = leaf_stays mid k2.pairs grown height tree raised.inner p ∙ raised.leaves p
+
+-- 7. What putting asks and leaves, where both trees are made as deep as one of them.
+
+module _ (k : Store) (old : Plain) (was wanted : Names) (c : Changes) (p1 p2 : List (ℕ × ℕ)) (own : AreMemoryNames k old.memory was)
+    (one : IsSameTree k.pairs was p1 (record was { height = c.height; pages = c.before })) (two : IsSameTree p1 wanted p2 (record wanted { height = c.height; pages = c.after })) where
+  abbrev k1 : Store
+  k1 = record k { pairs = p1 }
+
+  abbrev k2 : Store
+  k2 = record k { pairs = p2 }
+
+  pub more_trees : HasMoreCells k k2
+  more_trees = more_pairs k p2 (grown_twice k.pairs p1 p2 one.grown two.grown)
+
+  pages_before : HasPages k2 old.memory (leaves p2 c.height c.before)
+  pages_before = raised_pages k k2 p1 old.memory was c.height c.before own one two.grown more_trees
+
+  pages_after : (m : Memory) → AreMemoryNames k m wanted → HasPages k2 m (leaves p2 c.height c.after)
+  pages_after m h = raised_pages k1 k2 p2 m wanted c.height c.after (memory_more k k1 (more_pairs k p1 one.grown) m wanted h) two (take-length p2) (more_pairs k1 p2 two.grown)
+
+  pub can_put : c.height ≤ 32 → c.list.now ≡ changed 0 (leaves p2 c.height c.before) (leaves p2 c.height c.after) → HaveOnePlace k.pages → IsPaged old.memory
+      → (m : Memory) → IsPaged m → m.frames ≡ old.memory.frames → AreMemoryNames k m wanted → CanPut k2 old c
+  can_put few list places paged m whole frames named = record {
+    before = tree_stays p1 p2 two.grown c.height c.before one.inner;
+    after = two.inner;
+    few = few;
+    list = list;
+    places = places;
+    was = pages_before;
+    paged = paged;
+    wanted = m;
+    whole = whole;
+    frames = frames;
+    names = pages_after m named;
+  }
+
+  pub put_is : CanPut k2 old c → (new : Plain) → IsPutSoFar k2 c (λ index name. index < length c.list.now) old new → IsPaged new.memory
+      → (m : Memory) → IsPaged m → m.frames ≡ old.memory.frames → AreMemoryNames k m wanted → new.memory ≡ m
+  put_is can new so paged m whole frames named =
+      all_put k2 c old can (λ index name. index < length c.list.now) new so (λ j e got. slice_get_within c.list.now j e got) paged m whole frames (pages_after m named)

@@ -1,192 +1,209 @@
 -- Reading the slots whose names differ.
-use Rattle.std.proofs.Common.{◌≡◌, ◌≢◌, ◌⊎◌, inl, inr, ℕ, zero, suc, ◌+◌, ◌*◌, ◌%◌, ◌<◌, ◌≤◌, ◌^◌, Bool, true, false, List, [], ◌∷◌, map, length, slice_get, slice_set, slice_index_or, bit_or, if◌then◌else◌, Option, Some, refl, sym, ap, ◌∙◌, subst, arith, eqb}
-use Rattle.std.proofs.lemmas.{Bool.{cases_eq, cases_lt}, List.{get_or-set_same, get_or-set_other, get_or-map, length-map, length-set}}
-use Rattle.std.proofs.lemmas.{Option.{slice_get-get_or, slice_get_past, slice_get_within}, Nat.Bits.{bit_at_set_same, bit_at_set_other}}
-use Rattle.std.specs.{Prelude.zip, List.AllByRecursion, Int.w64}
+use Rattle.std.proofs.Common.{◌≡◌, ◌⊎◌, inl, inr, ℕ, zero, suc, ◌+◌, ◌<◌, ◌≤◌, Bool, true, false, List, [], ◌∷◌, map, length, slice_get, slice_set, slice_index_or, take, if◌then◌else◌, Some, refl, sym, ap, ◌∙◌, subst, arith}
+use Rattle.std.proofs.lemmas.{List.{get_or-set_same, get_or-set_other, get_or-map, length-map, length-set, take_all, Sums.fold_more}, Option.{slice_get_within, get_or_from_slice_get}}
+use Rattle.std.specs.List.{AllByRecursion}
+use Rattle.std.specs.Prelude.{zip}
 use Rattle.mm_model.specs.{Slot.Slot, Image.Image, Flags.flags, State.{ThreadRow, Core, State}, Fits.{slots_of, identity_of}, Spelling.IsImage}
-use Rattle.mm_model.proofs.{Bytes.Bitmaps.length-flags, CoreRows.each_get}
+use Rattle.mm_model.proofs.CoreRows.{each_get}
 use Rattle.mm_thread.specs.SlotIndices.{no_slot, no_row, slot_in}
-use Rattle.mm_thread.proofs.{FlagSets.flags-one, Revised.slots_many}
-use Rattle.mm_pairs.specs.{Named.IsNameOf, Trees.{leaves, changed}}
-use Rattle.mm_pairs.proofs.Names.{length_leaves}
+use Rattle.mm_pairs.specs.{Named.{named, HaveOneName}, Trees.{leaves, changed}}
 use Rattle.mm_config.specs.declared.configs.Configs as code
 use Rattle.mm_config.specs.declared.{store.Store.Store, names.Names.Names}
-use Rattle.mm_config.specs.{Configurations.{uncounted_slot, uncounted, configuration}, Forms.{slot_form, slot_from}, Keeping.IsConfigurationOf}
-use Rattle.mm_config.specs.Reaching.{KeepsAll, SlotsSoFar, HasReadSlots}
-use Rattle.mm_config.specs.Naming.{AreNamesOf, AreLeaves, IsOrNone, IsSlotName, leaf_at}
-use Rattle.mm_config.proofs.{Walks.{change_is, change_at, up_to}, Keepables.{IsKeepablePair, slots_kept}, SlotForms.{IsKeepable, slot_read, form_tells}}
-use Rattle.mm_config.proofs.{NotedTurn.{zip_get, zip_long, slots_at, slots_long}, Turned.bare_core}
+use Rattle.mm_config.specs.{Configurations.{uncounted_slot, uncounted_row, configuration}, Forms.{slot_form, slot_from}, Keeping.IsConfigurationOf}
+use Rattle.mm_config.specs.{Reaching.{Reaches, KeepsAll, HasReadSlots}, Naming.{AreLeaves, IsSlotName, leaf_at}, Reads.{mask_of, slots_read}}
+use Rattle.mm_config.proofs.{NamedOnce.one_name, ChangedLeaves.{leaf_named, entry, left, all_at}, Reached.{slots_rows, pair_count, pair_at, few_base}, Masked.{IsMasked, AreMasked, all_masked}, Keepables.{IsKeepablePair, slots_kept}, SlotForms.{IsKeepable, slot_read, form_tells}}
 
--- a flag that is set
-pub flags_set : (k n r : ℕ) → k ≤ 64 → r < k → flags k (bit_or n (1 * 2 ^ r % 2 ^ 64)) ≡ slice_set (flags k n) r true
-flags_set k n r few lt =
-    flags-one k (bit_or n (1 * 2 ^ r % 2 ^ 64)) n r true lt (ap (λ c. eqb c 1) (bit_at_set_same w64 n r (omega (arith, few, lt)))) (λ i small other.
-    bit_at_set_other w64 n r (omega (arith, few, lt)) i other)
+abbrev pub slot_changes : Names → code.Configs → List (ℕ × ℕ)
+slot_changes wanted c = changed 0 (leaves c.store.pairs c.depth c.names.slots) (leaves c.store.pairs c.depth wanted.slots)
 
--- 1. A configuration's slots by their names.
+-- 1. The slots of a configuration.
 
-module _ (i : Image) (s : State) (depth : ℕ) (k : Store) (n : Names) (img : IsImage i) (config : IsConfigurationOf i s) (names : AreNamesOf i.slots depth k s n) where
-  pub as_many : length i.slots ≡ length s.core.rows
-  as_many = slots_many i.slots s.core (sym config.state.fits.same_slots)
-
-  pairs_long : length (zip i.slots (slots_of s.core)) ≡ length i.slots
-  pairs_long = zip_long i.slots (slots_of s.core) (as_many ∙ sym (slots_long s.core))
-
-  pair_at : (p : ℕ) → p < length i.slots → slice_index_or (zip i.slots (slots_of s.core)) p (no_slot, no_slot) ≡ (slice_index_or i.slots p no_slot, slot_in s.core p)
-  pair_at p lt =
-      let rows = slots_long s.core in
-      zip_get i.slots (slots_of s.core) p lt (omega (arith, lt, as_many, rows)) ∙ ap (λ x. (slice_index_or i.slots p no_slot, x)) (slots_at s.core p (omega (arith, lt, as_many)))
-
-  pub name_at : (p : ℕ) → p < length i.slots → IsSlotName k (slice_index_or i.slots p no_slot) (slot_in s.core p) (leaf_at k.pairs depth n.slots p)
-  name_at p lt =
-      let there = subst (λ o. IsOrNone (λ (x : Slot × Slot) name. IsSlotName k x.0 x.1 name) o (leaf_at k.pairs depth n.slots p))
-      (slice_get-get_or (zip i.slots (slots_of s.core)) p (no_slot, no_slot) (omega (arith, lt, pairs_long))) (names.slots.each p) in
-      subst (λ (x : Slot × Slot). IsSlotName k x.0 x.1 (leaf_at k.pairs depth n.slots p)) (pair_at p lt) there
-
-  pub none_past : (p : ℕ) → length i.slots ≤ p → leaf_at k.pairs depth n.slots p ≡ 0
-  none_past p high =
-      subst (λ o. IsOrNone (λ (x : Slot × Slot) name. IsSlotName k x.0 x.1 name) o (leaf_at k.pairs depth n.slots p))
-      (slice_get_past (zip i.slots (slots_of s.core)) p (omega (arith, high, pairs_long))) (names.slots.each p)
-
-  pub bare_at : (p : ℕ) → p < length i.slots → uncounted_slot (slot_in s.core p) ≡ slot_in s.core p
+module _ (i : Image) (s : State) (img : IsImage i) (config : IsConfigurationOf i s) where
+  bare_at : (p : ℕ) → p < length i.slots → uncounted_slot (slot_in s.core p) ≡ slot_in s.core p
+  unfolding configuration
   bare_at p lt =
-      sym (ap (λ (row : ThreadRow). row.slot) (get_or-map Rattle.mm_config.specs.Configurations.uncounted_row s.core.rows p no_row no_row (omega (arith, lt, as_many))))
-      ∙ ap (λ (core : Core). slot_in core p) (bare_core s config.bare)
+      let many = slots_rows i s config in
+      sym (ap (λ (row : ThreadRow). row.slot) (get_or-map uncounted_row s.core.rows p no_row no_row (omega (arith, lt, many))))
+      ∙ ap (λ (x : State). slot_in x.core p) config.bare
 
-  keepable_at : (p : ℕ) → p < length i.slots → IsKeepable (slice_index_or i.slots p no_slot) (uncounted_slot (slot_in s.core p))
-  keepable_at p lt =
-      subst IsKeepablePair (pair_at p lt)
-      (each_get IsKeepablePair (zip i.slots (slots_of s.core)) p (no_slot, no_slot) (slots_kept i s img config.state) (omega (arith, lt, pairs_long)))
-
-  pub keeps_at : (p : ℕ) → p < length i.slots → IsKeepable (slice_index_or i.slots p no_slot) (slot_in s.core p)
-  keeps_at p lt = subst (IsKeepable (slice_index_or i.slots p no_slot)) (bare_at p lt) (keepable_at p lt)
+  keeps_at : (p : ℕ) → p < length i.slots → IsKeepable (slice_index_or i.slots p no_slot) (slot_in s.core p)
+  keeps_at p lt =
+      let all = pair_count i s config in
+      subst (IsKeepable (slice_index_or i.slots p no_slot)) (bare_at p lt)
+      (subst IsKeepablePair (pair_at i s config p lt) (each_get IsKeepablePair (zip i.slots (slots_of s.core)) p (no_slot, no_slot) (slots_kept i s img config.state) (omega (arith, lt, all))))
 
   -- what is read of its form is the slot
-  pub slot_back : (p : ℕ) → p < length i.slots → slot_from (slice_index_or i.slots p no_slot) (slot_form (slice_index_or i.slots p no_slot) (slot_in s.core p)) ≡ slot_in s.core p
+  slot_back : (p : ℕ) → p < length i.slots → slot_from (slice_index_or i.slots p no_slot) (slot_form (slice_index_or i.slots p no_slot) (slot_in s.core p)) ≡ slot_in s.core p
   slot_back p lt = slot_read (slice_index_or i.slots p no_slot) (slot_in s.core p) (keeps_at p lt) ∙ bare_at p lt
 
--- 2. Another configuration's.
+-- 2. The slots of two configurations.
 
-module _ (i : Image) (a s : State) (depth : ℕ) (k : Store) (n m : Names) (img : IsImage i) (ca : IsConfigurationOf i a) (cs : IsConfigurationOf i s)
-    (na : AreNamesOf i.slots depth k a n) (ns : AreNamesOf i.slots depth k s m) where
-  abbrev was : List ℕ
-  was = leaves k.pairs depth n.slots
+abbrev pub IsPairName : Store → Slot × Slot → ℕ → Type 0
+IsPairName k x name = IsSlotName k x.0 x.1 name
 
-  abbrev wanted : List ℕ
-  wanted = leaves k.pairs depth m.slots
+module _ (i : Image) (k : Store) (depth : ℕ) (a s : State) (n m : ℕ) (img : IsImage i) (ca : IsConfigurationOf i a) (cs : IsConfigurationOf i s)
+    (na : AreLeaves (IsPairName k) (zip i.slots (slots_of a.core)) k.pairs depth n) (ns : AreLeaves (IsPairName k) (zip i.slots (slots_of s.core)) k.pairs depth m) where
+  named_at : (x : State) (t : ℕ) → IsConfigurationOf i x → AreLeaves (IsPairName k) (zip i.slots (slots_of x.core)) k.pairs depth t → (p : ℕ) → p < length i.slots
+      → IsSlotName k (slice_index_or i.slots p no_slot) (slot_in x.core p) (leaf_at k.pairs depth t p)
+  named_at x t cx nx p lt =
+      let all = pair_count i x cx in
+      subst (λ (y : Slot × Slot). IsSlotName k y.0 y.1 (leaf_at k.pairs depth t p)) (pair_at i x cx p lt)
+      (leaf_named (IsPairName k) (no_slot, no_slot) (zip i.slots (slots_of x.core)) k.pairs depth t nx p (omega (arith, lt, all)))
 
-  long : length was ≡ length wanted
-  long = length_leaves k.pairs depth n.slots ∙ sym (length_leaves k.pairs depth m.slots)
+  -- slots of one name are the same, and the same slots have one name
+  pub slot_alike : (p : ℕ) → p < length i.slots → leaf_at k.pairs depth n p ≡ leaf_at k.pairs depth m p → slot_in a.core p ≡ slot_in s.core p
+  slot_alike p lt same =
+      let base = slice_index_or i.slots p no_slot in
+      let forms : slot_form base (slot_in a.core p) ≡ slot_form base (slot_in s.core p) = sym (named_at a n ca na p lt).is ∙ ap (named [] k.lists) same ∙ (named_at s m cs ns p lt).is in
+      sym (bare_at i a img ca p lt) ∙ form_tells base (slot_in a.core p) (slot_in s.core p) (keeps_at i a img ca p lt) (keeps_at i s img cs p lt) forms ∙ bare_at i s img cs p lt
 
-  pub record SlotEntry (e : ℕ × ℕ) : Type 0 where
-    pub within : e.0 < length i.slots
-    pub name : IsSlotName k (slice_index_or i.slots e.0 no_slot) (slot_in s.core e.0) e.1
+  pub one_slot_name : HaveOneName [] k.lists → (p : ℕ) → p < length i.slots → slot_in a.core p ≡ slot_in s.core p → leaf_at k.pairs depth n p ≡ leaf_at k.pairs depth m p
+  one_slot_name once p lt same =
+      let base = slice_index_or i.slots p no_slot in
+      one_name [] k.lists once (leaf_at k.pairs depth n p) (leaf_at k.pairs depth m p) (slot_form base (slot_in a.core p)) (slot_form base (slot_in s.core p)) (named_at a n ca na p lt) (named_at s m cs ns p lt)
+      (ap (slot_form base) same)
 
-  -- a change is to the name of a slot
-  pub slot_entry : (j : ℕ) (e : ℕ × ℕ) → slice_get (changed 0 was wanted) j ≡ Some e → SlotEntry e
-  slot_entry j e got =
-      let c = change_is 0 was wanted long j e got in
-      let place : e.0 ≡ c.place = ap (λ (x : ℕ × ℕ). x.0) c.is ∙ omega arith in
-      let name : e.1 ≡ leaf_at k.pairs depth m.slots c.place = ap (λ (x : ℕ × ℕ). x.1) c.is in
-      elim (cases_lt c.place (length i.slots)) [
-        | inl lt ↦ record {
-          within = omega (arith, place, lt);
-          name = subst (λ p. IsSlotName k (slice_index_or i.slots p no_slot) (slot_in s.core p) e.1) (sym place)
-              (subst (IsSlotName k (slice_index_or i.slots c.place no_slot) (slot_in s.core c.place)) (sym name) (name_at i s depth k m img cs ns c.place lt));
-        }
-        | inr high ↦ absurd (c.differs (none_past i a depth k n img ca na c.place high ∙ sym (none_past i s depth k m img cs ns c.place high)))
-      ]
+  pairs_alike : length (zip i.slots (slots_of a.core)) ≡ length (zip i.slots (slots_of s.core))
+  pairs_alike = pair_count i a ca ∙ sym (pair_count i s cs)
+
+  -- a change is to the name of a slot, which is not the same
+  pub slot_changed : (j : ℕ) (e : ℕ × ℕ) → slice_get (changed 0 (leaves k.pairs depth n) (leaves k.pairs depth m)) j ≡ Some e
+      → (e.0 < length i.slots) × IsSlotName k (slice_index_or i.slots e.0 no_slot) (slot_in s.core e.0) e.1 × (leaf_at k.pairs depth n e.0 ≡ leaf_at k.pairs depth m e.0 → ⊥)
+  slot_changed j e got =
+      let h = entry (IsPairName k) (no_slot, no_slot) (zip i.slots (slots_of a.core)) (zip i.slots (slots_of s.core)) k.pairs depth n m na ns pairs_alike j e got in
+      let inside = h.0 in
+      let all = pair_count i s cs in
+      let lt : e.0 < length i.slots = omega (arith, inside, all) in
+      (lt, subst (λ (x : Slot × Slot). IsSlotName k x.0 x.1 e.1) (pair_at i s cs e.0 lt) h.1, h.2)
 
   -- where nothing changes the slot is the same
-  pub slot_left : (p : ℕ) → p < length i.slots → ((j : ℕ) (e : ℕ × ℕ) → slice_get (changed 0 was wanted) j ≡ Some e → e.0 ≡ p → ⊥) → slot_in a.core p ≡ slot_in s.core p
-  slot_left p lt none = elim (cases_eq (slice_index_or was p 0) (slice_index_or wanted p 0)) [
-    | inl same ↦
-        let one = name_at i a depth k n img ca na p lt in
-        let two = name_at i s depth k m img cs ns p lt in
-        let forms : slot_form (slice_index_or i.slots p no_slot) (slot_in a.core p) ≡ slot_form (slice_index_or i.slots p no_slot) (slot_in s.core p) =
-        sym one.is ∙ ap (Rattle.mm_pairs.specs.Named.named [] k.lists) same ∙ two.is in
-        sym (bare_at i a depth k n img ca na p lt)
-        ∙ form_tells (slice_index_or i.slots p no_slot) (slot_in a.core p) (slot_in s.core p) (keeps_at i a depth k n img ca na p lt) (keeps_at i s depth k m img cs ns p lt) forms
-        ∙ bare_at i s depth k m img cs ns p lt
-    | inr other ↦
-        let wide = ns.slots.wide in
-        let pairs = pairs_long i s depth k m img cs ns in
-        let all = length_leaves k.pairs depth m.slots in
-        let at = change_at 0 was wanted long p (omega (arith, lt, pairs, wide, all)) other in
-        absurd (none at.0 (0 + p, slice_index_or wanted p 0) at.1 (omega arith))
-  ]
+  pub slot_left : (p : ℕ) → p < length i.slots → ((j : ℕ) (e : ℕ × ℕ) → slice_get (changed 0 (leaves k.pairs depth n) (leaves k.pairs depth m)) j ≡ Some e → e.0 ≡ p → ⊥) → slot_in a.core p ≡ slot_in s.core p
+  slot_left p lt none =
+      let all = pair_count i s cs in
+      elim (left (IsPairName k) (no_slot, no_slot) (zip i.slots (slots_of a.core)) (zip i.slots (slots_of s.core)) k.pairs depth n m na ns pairs_alike p (omega (arith, lt, all))) [
+        | inl h ↦ absurd (none h.0 (p, leaf_at k.pairs depth m p) h.1 refl)
+        | inr same ↦ slot_alike p lt same
+      ]
 
--- 3. The loop.
+-- 3. Each change is to a slot that is wanted.
+
+module _ (wanted : Names) (c : code.Configs) (r : Reaches wanted c) where
+  -- a change, and the slot that is wanted at its place
+  pub record SlotEntry (e : ℕ × ℕ) : Type 0 where
+    pub within : e.0 < length c.base.items
+    pub name : e.1 ≤ length c.store.lists
+    pub is : slot_from (slice_index_or c.base.items e.0 no_slot) (named [] c.store.lists e.1) ≡ slot_in r.state.core e.0
+
+  pub slot_entry : (j : ℕ) (e : ℕ × ℕ) → slice_get (slot_changes wanted c) j ≡ Some e → SlotEntry e
+  slot_entry j e got =
+      let i = r.image in
+      let s = r.state in
+      let own = r.stands.machine.config in
+      let h = slot_changed i c.store c.depth r.at.machine s c.names.slots wanted.slots r.stands.image own r.config r.stands.named.names.slots r.names.slots j e got in
+      record {
+        within = subst (λ (l : List Slot). e.0 < length l) (sym r.stands.base) h.0;
+        name = h.1.within;
+        is = subst (λ (l : List Slot). slot_from (slice_index_or l e.0 no_slot) (named [] c.store.lists e.1) ≡ slot_in s.core e.0) (sym r.stands.base)
+            (ap (slot_from (slice_index_or i.slots e.0 no_slot)) h.1.is ∙ slot_back i s r.stands.image r.config e.0 h.0);
+      }
+
+  pub slot_stays : (p : ℕ) → p < length c.base.items → ((j : ℕ) (e : ℕ × ℕ) → slice_get (slot_changes wanted c) j ≡ Some e → e.0 ≡ p → ⊥) → slot_in c.core p ≡ slot_in r.state.core p
+  slot_stays p within none =
+      ap (λ (k : Core). slot_in k p) r.stands.machine.core
+      ∙ slot_left r.image c.store c.depth r.at.machine r.state c.names.slots wanted.slots r.stands.image r.stands.machine.config r.config r.stands.named.names.slots r.names.slots p
+      (subst (λ (l : List Slot). p < length l) r.stands.base within) none
+
+-- 4. All slots.
+
+-- an index past the end, under a map
+at_map : {A B : Type 0} (f : A → B) (xs : List A) (p : ℕ) (d : A) → slice_index_or (map f xs) p (f d) ≡ f (slice_index_or xs p d)
+at_map f [] p d = refl
+at_map f (x ∷ xs) zero d = refl
+at_map f (x ∷ xs) (suc p) d = at_map f xs p d
 
 identities_set : (slots : List Slot) (p : ℕ) (x : Slot) → identity_of x ≡ identity_of (slice_index_or slots p no_slot) → map identity_of (slice_set slots p x) ≡ map identity_of slots
 identities_set [] p x e = refl
 identities_set (y ∷ slots) zero x e = ap (λ id. id ∷ map identity_of slots) e
 identities_set (y ∷ slots) (suc p) x e = ap (λ l. identity_of y ∷ l) (identities_set slots p x e)
 
-module _ (core : Core) (old : code.Configs) (few : length old.base.items ≤ 64) where
-  -- nothing is read
-  pub none_read : (now : code.Configs) → KeepsAll old now → now.slots ≡ old.slots → SlotsSoFar core old now 0 0
-  none_read now others slots = record {
-    each = λ k lt. inr (no_flag (length old.base.items) k lt, λ j e low got same. absurd (omega (arith, low)));
-    room = ap (λ s. map identity_of s.items) slots;
+-- what is read of a base has its identity
+read_identity : (base : Slot) (ns : List ℕ) → identity_of (slot_from base ns) ≡ identity_of base
+unfolding slot_from
+read_identity base ns = refl
+
+module _ (lists : List (List ℕ)) (base : List Slot) where
+  -- there are as many slots, with the identities that they had
+  identities : (changes : List (ℕ × ℕ)) (slots : List Slot) → map identity_of slots ≡ map identity_of base → map identity_of (slots_read lists base changes slots) ≡ map identity_of base
+  identities [] slots same = same
+  identities (e ∷ changes) slots same =
+      let made = slot_from (slice_index_or base e.0 no_slot) (named [] lists e.1) in
+      let identity : identity_of made ≡ identity_of (slice_index_or slots e.0 no_slot) =
+      read_identity (slice_index_or base e.0 no_slot) (named [] lists e.1) ∙ sym (at_map identity_of base e.0 no_slot) ∙ ap (λ l. slice_index_or l e.0 (identity_of no_slot)) (sym same) ∙ at_map identity_of slots e.0 no_slot in
+      identities changes (slice_set slots e.0 made) (identities_set slots e.0 made identity ∙ same)
+
+  read_long : (changes : List (ℕ × ℕ)) (slots : List Slot) → length (slots_read lists base changes slots) ≡ length slots
+  read_long [] slots = refl
+  read_long (e ∷ changes) slots =
+      let made = slot_from (slice_index_or base e.0 no_slot) (named [] lists e.1) in
+      read_long changes (slice_set slots e.0 made) ∙ length-set slots e.0 made
+
+module _ (wanted : Names) (c : code.Configs) (r : Reaches wanted c) where
+  pub kept_slots : AllByRecursion (λ (e : ℕ × ℕ). (e.0 < length c.base.items) × (e.1 ≤ length c.store.lists)) (slot_changes wanted c)
+  kept_slots = all_at (λ (e : ℕ × ℕ). (e.0 < length c.base.items) × (e.1 ≤ length c.store.lists)) (slot_changes wanted c) (λ j e got. let h = slot_entry wanted c r j e got in (h.within, h.name))
+
+  pub few_places : AllByRecursion (λ (e : ℕ × ℕ). e.0 < 64) (slot_changes wanted c)
+  few_places = all_at (λ (e : ℕ × ℕ). e.0 < 64) (slot_changes wanted c) (λ j e got. let low = (slot_entry wanted c r j e got).within in let few = few_base wanted c r in omega (arith, low, few))
+
+  pub as_many_slots : length c.slots.items ≡ length c.base.items
+  as_many_slots = sym (length-map c.slots.items identity_of) ∙ ap length r.stands.room ∙ length-map r.image.slots identity_of ∙ ap length (sym r.stands.base)
+
+  -- the slots after the first changes
+  abbrev after : ℕ → List Slot
+  after n = slots_read c.store.lists c.base.items (take n (slot_changes wanted c)) c.slots.items
+
+  made : ℕ × ℕ → Slot
+  made e = slot_from (slice_index_or c.base.items e.0 no_slot) (named [] c.store.lists e.1)
+
+  abbrev IsReadAt : ℕ → ℕ → Type 0
+  IsReadAt n p = slice_index_or (after n) p no_slot ≡ slot_in r.state.core p
+
+  step : (n : ℕ) (e : ℕ × ℕ) → slice_get (slot_changes wanted c) n ≡ Some e → after (n + 1) ≡ slice_set (after n) e.0 (made e)
+  step n e got =
+      let changes = slot_changes wanted c in
+      let is = get_or_from_slice_get changes n e (0, 0) got in
+      fold_more (λ (now : List Slot) (x : ℕ × ℕ). slice_set now x.0 (slot_from (slice_index_or c.base.items x.0 no_slot) (named [] c.store.lists x.1))) c.slots.items changes n (0, 0)
+      (slice_get_within changes n e got)
+      ∙ ap (λ (x : ℕ × ℕ). slice_set (after n) x.0 (made x)) is
+
+  pub slots_are_read : (now : code.Configs) → now.slots.items ≡ slots_read c.store.lists c.base.items (slot_changes wanted c) c.slots.items → KeepsAll c now
+      → HasReadSlots r.state.core c now (mask_of (slot_changes wanted c))
+  slots_are_read now is others = record {
+    slots = λ p lt. by p lt (so p lt);
+    room =
+        ap (map identity_of) is
+        ∙ identities c.store.lists c.base.items (slot_changes wanted c) c.slots.items (r.stands.room ∙ ap (map identity_of) (sym r.stands.base)) ∙ ap (map identity_of) r.stands.base ∙ sym r.stands.room;
     others = others;
   }
     where
-      no_flag : (n k : ℕ) → k < n → slice_index_or (flags n 0) k false ≡ false
-      no_flag zero k lt = absurd (omega (arith, lt))
-      no_flag (suc n) zero lt = refl
-      no_flag (suc n) (suc k) lt = no_flag n k (omega (arith, lt))
+      changes : List (ℕ × ℕ)
+      changes = slot_changes wanted c
 
-  -- one slot more
-  pub one_read : (now next : code.Configs) (n mask : ℕ) (e : ℕ × ℕ) → SlotsSoFar core old now n mask → slice_get now.changed.items n ≡ Some e → e.0 < length old.base.items
-      → length now.slots.items ≡ length old.base.items → identity_of (slot_in core e.0) ≡ identity_of (slice_index_or now.slots.items e.0 no_slot)
-      → next.slots.items ≡ slice_set now.slots.items e.0 (slot_in core e.0) → next.changed ≡ now.changed → KeepsAll now next
-      → SlotsSoFar core old next (n + 1) (bit_or mask (1 * 2 ^ e.0 % 2 ^ 64))
-  one_read now next n mask e so got lt many same slots changed others = record {
-    each = λ k inside. by k inside (cases_eq k e.0) (so.each k inside);
-    room = ap (map identity_of) slots ∙ identities_set now.slots.items e.0 (slot_in core e.0) same ∙ so.room;
-    others = others ∙ ap (λ (c : code.Configs). record c { slots = next.slots; revision = next.revision; changed = next.changed }) so.others;
-  }
-    where
-      set : flags (length old.base.items) (bit_or mask (1 * 2 ^ e.0 % 2 ^ 64)) ≡ slice_set (flags (length old.base.items) mask) e.0 true
-      set = flags_set (length old.base.items) mask e.0 few lt
+      set : List Bool
+      set = flags (length c.base.items) (mask_of changes)
 
-      by : (k : ℕ) → k < (length old.base.items) → (k ≡ e.0) ⊎ (k ≡ e.0 → ⊥)
-          → ((slice_index_or (flags (length old.base.items) mask) k false ≡ true) × (slice_index_or now.slots.items k no_slot ≡ slot_in core k))
-          ⊎ ((slice_index_or (flags (length old.base.items) mask) k false ≡ false) × ((j : ℕ) (f : ℕ × ℕ) → j < n → slice_get now.changed.items j ≡ Some f → f.0 ≡ k → ⊥))
-          → ((slice_index_or (flags (length old.base.items) (bit_or mask (1 * 2 ^ e.0 % 2 ^ 64))) k false ≡ true) × (slice_index_or next.slots.items k no_slot ≡ slot_in core k))
-          ⊎ ((slice_index_or (flags (length old.base.items) (bit_or mask (1 * 2 ^ e.0 % 2 ^ 64))) k false ≡ false) × ((j : ℕ) (f : ℕ × ℕ) → j < n + 1 → slice_get next.changed.items j ≡ Some f → f.0 ≡ k → ⊥))
-      by k inside (inl here) was =
-          let long = length-flags (length old.base.items) mask in
-          inl (
-            ap (λ l. slice_index_or l k false) set ∙ ap (λ p. slice_index_or (slice_set (flags (length old.base.items) mask) e.0 true) p false) here
-                ∙ get_or-set_same (flags (length old.base.items) mask) e.0 true false (omega (arith, long, lt)),
-            ap (λ l. slice_index_or l k no_slot) slots ∙ ap (λ p. slice_index_or (slice_set now.slots.items e.0 (slot_in core e.0)) p no_slot) here
-                ∙ get_or-set_same now.slots.items e.0 (slot_in core e.0) no_slot (omega (arith, many, lt)) ∙ ap (slot_in core) (sym here),
-          )
-      by k inside (inr ne) (inl was) = inl (
-        ap (λ l. slice_index_or l k false) set ∙ get_or-set_other (flags (length old.base.items) mask) e.0 k true false ne ∙ was.0,
-        ap (λ l. slice_index_or l k no_slot) slots ∙ get_or-set_other now.slots.items e.0 k (slot_in core e.0) no_slot ne ∙ was.1,
-      )
-      by k inside (inr ne) (inr was) = inr (
-        ap (λ l. slice_index_or l k false) set ∙ get_or-set_other (flags (length old.base.items) mask) e.0 k true false ne ∙ was.0,
-        λ j f low got_f at.
-            let there : slice_get now.changed.items j ≡ Some f = ap (λ v. slice_get v.items j) (sym changed) ∙ got_f in
-            elim (up_to j n low) [
-              | inl before ↦ was.1 j f before there at
-              | inr last ↦
-                  let two : ◌≡◌ {A = Option (ℕ × ℕ)} (Some f) (Some e) = sym there ∙ ap (slice_get now.changed.items) last ∙ got in
-                  let one : f ≡ e = cc in
-                  ne (sym at ∙ ap (λ (x : ℕ × ℕ). x.0) one)
-            ],
-      )
+      so : AreMasked changes (IsReadAt (length changes)) (length c.base.items) (length changes) (mask_of changes)
+      so = all_masked changes IsReadAt (length c.base.items) (few_base wanted c r) (λ j e got. (slot_entry wanted c r j e got).within)
+          (λ n p e got ne was. ap (λ l. slice_index_or l p no_slot) (step n e got) ∙ get_or-set_other (after n) e.0 p (made e) no_slot ne ∙ was)
+          (λ n e got.
+            let h = slot_entry wanted c r n e got in
+            let low = h.within in
+            let long = read_long c.store.lists c.base.items (take n changes) c.slots.items in
+            let many = as_many_slots in
+            ap (λ l. slice_index_or l e.0 no_slot) (step n e got) ∙ get_or-set_same (after n) e.0 (made e) no_slot (omega (arith, low, long, many)) ∙ h.is)
 
-  -- all slots
-  pub all_read : (now : code.Configs) (n mask : ℕ) → SlotsSoFar core old now n mask → length now.changed.items ≤ n
-      → ((p : ℕ) → p < length old.base.items → ((j : ℕ) (e : ℕ × ℕ) → slice_get now.changed.items j ≡ Some e → e.0 ≡ p → ⊥) → slot_in old.core p ≡ slot_in core p)
-      → HasReadSlots core old now mask
-  all_read now n mask so end left = record { slots = λ k lt. by k lt (so.each k lt); room = so.room; others = so.others }
-    where
+      all : after (length changes) ≡ now.slots.items
+      all = ap (λ l. slots_read c.store.lists c.base.items l c.slots.items) (take_all (length changes) changes (omega arith)) ∙ sym is
+
       pick : (b : Bool) (x y z : Slot) → b ≡ true → x ≡ z → (if b then x else y) ≡ z
       pick true x y z e h = h
       pick false x y z e h = cc
@@ -195,11 +212,10 @@ module _ (core : Core) (old : code.Configs) (few : length old.base.items ≤ 64)
       leave true x y z e h = cc
       leave false x y z e h = h
 
-      by : (k : ℕ) → k < length old.base.items
-          → ((slice_index_or (flags (length old.base.items) mask) k false ≡ true) × (slice_index_or now.slots.items k no_slot ≡ slot_in core k))
-          ⊎ ((slice_index_or (flags (length old.base.items) mask) k false ≡ false) × ((j : ℕ) (e : ℕ × ℕ) → j < n → slice_get now.changed.items j ≡ Some e → e.0 ≡ k → ⊥))
-          → (if slice_index_or (flags (length old.base.items) mask) k false then slice_index_or now.slots.items k no_slot else slot_in old.core k) ≡ slot_in core k
-      by k lt (inl h) = pick (slice_index_or (flags (length old.base.items) mask) k false) (slice_index_or now.slots.items k no_slot) (slot_in old.core k) (slot_in core k) h.0 h.1
-      by k lt (inr h) =
-          leave (slice_index_or (flags (length old.base.items) mask) k false) (slice_index_or now.slots.items k no_slot) (slot_in old.core k) (slot_in core k) h.0
-          (left k lt (λ j e got same. let in_list = slice_get_within now.changed.items j e got in h.1 j e (omega (arith, in_list, end)) got same))
+      by : (p : ℕ) → p < length c.base.items → IsMasked changes (IsReadAt (length changes)) (length changes) set p
+          → (if slice_index_or set p false then slice_index_or now.slots.items p no_slot else slot_in c.core p) ≡ slot_in r.state.core p
+      by p lt (inl h) =
+          pick (slice_index_or set p false) (slice_index_or now.slots.items p no_slot) (slot_in c.core p) (slot_in r.state.core p) h.0 (ap (λ l. slice_index_or l p no_slot) (sym all) ∙ h.1)
+      by p lt (inr h) =
+          leave (slice_index_or set p false) (slice_index_or now.slots.items p no_slot) (slot_in c.core p) (slot_in r.state.core p) h.0
+          (slot_stays wanted c r p lt (λ j e got same. h.1 j e (slice_get_within changes j e got) got same))

@@ -2,20 +2,18 @@
 use Rattle.std.proofs.Common.{◌≡◌, ◌⊎◌, Vec, Global, ℕ, ◌+◌, ◌<◌, ◌≤◌, ◌^◌, List, [], ◌∷◌, ◌++◌, map, length, take, Bool, false, if◌then◌else◌, slice_index_or, refl, sym, ap, ◌∙◌, subst, arith, length-append}
 use Rattle.std.proofs.lemmas.List.{length-map, length-take-le}
 use Rattle.std.specs.List.{AllByRecursion, AllZip}
-use Rattle.mm_model.specs.{declared.event.Event.Event, Slot.Slot, Flags.flags, Memory.Memory, Image.Image, State.{ThreadRow, Core, State, output_of}}
+use Rattle.mm_model.specs.{declared.event.Event.Event, Slot.Slot, Flags.flags, Memory.{Memory, IsPaged}, Image.Image, State.{ThreadRow, Core, State, output_of}}
 use Rattle.mm_model.specs.{Fits.{slots_of, identity_of, IsCore}, Spelling.IsImage}
-use Rattle.mm_model.proofs.{Bytes.Bitmaps.length-flags, CoreRows.each_map, Fitted.core_of, Shortness.queue_short}
-use Rattle.mm_thread.specs.{SlotIndices.{no_slot, slot_in, queue_in}, Revisions.{Extension, queue_in_place, queues_in, outputs_in, revised}}
-use Rattle.mm_thread.proofs.{Cores.output_short, Index.queue_found, RowIndex.{apart_in, few_rows, small_numbers}}
+use Rattle.mm_model.proofs.{Bytes.Bitmaps.length-flags, CoreRows.each_map, Shortness.queue_short}
+use Rattle.mm_thread.specs.{declared.restore.Revision.Revision, SlotIndices.{no_slot, slot_in, queue_in}, Revisions.{Extension, queue_in_place, queues_in, outputs_in, revised}}
+use Rattle.mm_thread.proofs.{Cores.output_short, Index.queue_found, RowIndex.apart_in}
 use Rattle.mm_config.specs.declared.configs.Configs as code
 use Rattle.mm_config.specs.declared.{store.Store.Store, names.Names.Names}
-use Rattle.mm_config.specs.{Configurations.configuration, Machines.Configs, Naming.{AreNamesOf, IsRest, IsKeptOnce}, Noting.{IsKeptStill, HasMoreCells, mapped_pages}}
+use Rattle.mm_config.specs.{Configurations.configuration, Machines.Configs, Naming.{AreNamesOf, AreMemoryNames, IsRest, IsKeptOnce}, Noting.{IsKeptStill, HasMoreCells, mapped_pages}}
 use Rattle.mm_config.specs.Keeping.{IsConfigurationOf, IsKeyOf, IsMachineAt, HasNamesOf, Stands}
 use Rattle.mm_config.specs.Reaching.{HasConfiguration, Reaches, HasPutCore, KeepsAll, HasReadSlots, HasReadQueues, HasReadOutputs, IsListed, Extends}
-use Rattle.mm_config.proofs.{Keys.key_tells, Noted.still_more, Staying.{keys_stay, names_stay, rest_stays}, Revising.{LeadsTo, revised_is}}
-
-pub config_core : (i : Image) (s : State) → IsImage i → IsConfigurationOf i s → IsCore s.core
-config_core i s img h = core_of i s img h.state.state h.state.fits h.state.kept
+pub use Rattle.mm_config.proofs.Reached.config_core
+use Rattle.mm_config.proofs.{Reached.{slots_rows, own, aim, base_rows, as_many, groups, few_base}, Keys.key_tells, Zips.{zip_long, zip_from, each_at}, Noted.still_more, Staying.{keys_stay, names_stay, rest_stays}, Revising.{LeadsTo, revised_is}}
 
 -- 1. A machine stands if it is at a configuration, with its names, and if what was kept still is.
 
@@ -86,6 +84,20 @@ module _ (c : code.Configs) (key : ℕ × ℕ) (h : HasConfiguration c key) wher
     names = subst (AreNamesOf h.image.slots c.depth c.store h.state) (sym e) h.is.are;
   }
 
+-- the configuration of a key that is kept
+pub kept_long : (i : Image) (v : Configs) (c : code.Configs) → Stands i v c → length v.kept ≡ length c.kept.keys
+kept_long i v c h = zip_long (IsKeyOf i.slots c.depth c.store) v.kept c.kept.keys h.each
+
+pub has_kept : (i : Image) (v : Configs) (c : code.Configs) → Stands i v c → (at : ℕ) (key : ℕ × ℕ) → at < length v.kept → key ≡ slice_index_or c.kept.keys at (0, 0) → HasConfiguration c key
+has_kept i v c h at key lt same = record {
+  image = i;
+  at = v;
+  state = slice_index_or v.kept at v.machine;
+  stands = h;
+  config = each_at (IsConfigurationOf i) v.kept h.configs at v.machine lt;
+  is = subst (IsKeyOf i.slots c.depth c.store (slice_index_or v.kept at v.machine)) (sym same) (zip_from (IsKeyOf i.slots c.depth c.store) v.kept c.kept.keys h.each at v.machine (0, 0) lt);
+}
+
 -- 3. The core.
 
 module _ (wanted : Names) (c0 c1 c2 c3 : code.Configs) (r : Reaches wanted c0) (mask : ℕ) (one : HasReadSlots r.state.core c0 c1 mask)
@@ -96,12 +108,6 @@ module _ (wanted : Names) (c0 c1 c2 c3 : code.Configs) (r : Reaches wanted c0) (
   abbrev to : Core
   to = r.state.core
 
-  own : IsCore was
-  own = config_core r.image r.at.machine r.stands.image r.stands.machine.config
-
-  aim : IsCore to
-  aim = config_core r.image r.state r.stands.image r.config
-
   core_1 : c1.core ≡ was
   core_1 = ap (λ (c : code.Configs). c.core) one.others ∙ r.stands.machine.core
 
@@ -111,15 +117,6 @@ module _ (wanted : Names) (c0 c1 c2 c3 : code.Configs) (r : Reaches wanted c0) (
   core_3 : c3.core ≡ was
   core_3 = ap (λ (c : code.Configs). c.core) three.others ∙ core_2
 
-  same_slots : map identity_of (slots_of was) ≡ map identity_of (slots_of to)
-  same_slots = r.stands.machine.config.state.fits.same_slots ∙ sym r.config.state.fits.same_slots
-
-  rows_of : (core : Core) → length (map identity_of (slots_of core)) ≡ length core.rows
-  rows_of core = length-map (slots_of core) identity_of ∙ length-map core.rows (λ (row : ThreadRow). row.slot)
-
-  as_many : length was.rows ≡ length to.rows
-  as_many = sym (rows_of was) ∙ ap length same_slots ∙ rows_of to
-
   pub room_is : map identity_of c3.slots.items ≡ map identity_of (slots_of c3.core)
   room_is =
       ap (λ s. map identity_of s.items) three.room ∙ ap (λ s. map identity_of s.items) two.room ∙ one.room ∙ r.stands.room
@@ -127,21 +124,19 @@ module _ (wanted : Names) (c0 c1 c2 c3 : code.Configs) (r : Reaches wanted c0) (
 
   many : length c3.slots.items ≡ length was.rows
   many =
-      sym (length-map c3.slots.items identity_of) ∙ ap length room_is ∙ ap (λ (k : Core). length (map identity_of (slots_of k))) core_3 ∙ rows_of was
-
-  base_many : length c0.base.items ≡ length was.rows
-  base_many =
-      ap length r.stands.base ∙ sym (length-map r.image.slots identity_of) ∙ ap length (sym r.stands.machine.config.state.fits.same_slots) ∙ rows_of was
+      let rows = slots_rows r.image r.at.machine r.stands.machine.config in
+      sym (length-map c3.slots.items identity_of) ∙ ap length (ap (λ s. map identity_of s.items) three.room ∙ ap (λ s. map identity_of s.items) two.room ∙ one.room ∙ r.stands.room)
+      ∙ length-map r.image.slots identity_of ∙ rows
 
   slots_lead : (k : ℕ) → k < length was.rows
       → (if slice_index_or (flags (length c3.slots.items) mask) k false then slice_index_or c3.slots.items k no_slot else slot_in was k) ≡ slot_in to k
   slots_lead k lt =
-      let long : length c0.base.items ≡ length c3.slots.items = base_many ∙ sym many in
+      let long : length c0.base.items ≡ length c3.slots.items = base_rows wanted c0 r ∙ sym many in
       let items : c1.slots.items ≡ c3.slots.items = ap (λ s. s.items) (sym (three.room ∙ two.room)) in
       subst (λ n. (if slice_index_or (flags n mask) k false then slice_index_or c3.slots.items k no_slot else slot_in was k) ≡ slot_in to k) long
       (subst (λ (l : List Slot). (if slice_index_or (flags (length c0.base.items) mask) k false then slice_index_or l k no_slot else slot_in was k) ≡ slot_in to k) items
       (subst (λ (core : Core). (if slice_index_or (flags (length c0.base.items) mask) k false then slice_index_or c1.slots.items k no_slot else slot_in core k) ≡ slot_in to k)
-      r.stands.machine.core (one.slots k (omega (arith, base_many, lt)))))
+      r.stands.machine.core (one.slots k (omega (arith, base_rows wanted c0 r, lt)))))
 
   abbrev Queued : ℕ × List Event → Type 0
   Queued x = (x.0 < length was.rows) × (x.1 ≡ queue_in to x.0)
@@ -156,8 +151,8 @@ module _ (wanted : Names) (c0 c1 c2 c3 : code.Configs) (r : Reaches wanted c0) (
 
   leads : LeadsTo was to (flags (length c3.slots.items) mask) c3.slots.items (queues_in c3.revision) (outputs_in c3.revision)
   leads = record {
-    rows = as_many;
-    groups = own.formed.outputs ∙ sym aim.formed.outputs;
+    rows = as_many wanted c0 r;
+    groups = groups wanted c0 r;
     version = r.stands.machine.config.state.fits.version ∙ sym r.config.state.fits.version;
     split = r.stands.machine.config.state.fits.split ∙ sym r.config.state.fits.split;
     flags = length-flags (length c3.slots.items) mask ∙ many;
@@ -180,33 +175,90 @@ module _ (wanted : Names) (c0 c1 c2 c3 : code.Configs) (r : Reaches wanted c0) (
       ∙ revised_is was to (flags (length c3.slots.items) mask) c3.slots.items (queues_in c3.revision) (outputs_in c3.revision) leads
 
   pub whole : IsCore (revised c3.core (flags (length c3.slots.items) mask) c3.slots.items (queues_in c3.revision) (outputs_in c3.revision))
-  whole = subst IsCore (sym core_is) aim
+  whole = subst IsCore (sym core_is) (aim wanted c0 r)
 
   pub few_slots : length c3.slots.items ≤ 64
-  few_slots = let few = few_rows was own.formed.rising (small_numbers was own) in omega (arith, many, few)
+  few_slots = let few = few_base wanted c0 r in let base = base_rows wanted c0 r in omega (arith, many, few, base)
 
   short_queue : (k : ℕ) → k < length to.rows → length (queue_in to k) ≤ 64
   short_queue k lt =
-      subst (λ (q : List Event). length q ≤ 64) (queue_found to (apart_in to aim) k lt) (queue_short to aim.matched (slot_in to k).number aim.formed)
+      subst (λ (q : List Event). length q ≤ 64) (queue_found to (apart_in to (aim wanted c0 r)) k lt) (queue_short to (aim wanted c0 r).matched (slot_in to k).number (aim wanted c0 r).formed)
 
   pub short_queues : AllByRecursion (λ (x : ℕ × List Event). (x.0 < length c3.slots.items) × (length x.1 ≤ 64)) (queues_in c3.revision)
   short_queues = each_map Queued (λ (x : ℕ × List Event). (x.0 < length c3.slots.items) × (length x.1 ≤ 64)) (λ x h.
       let inside = h.0 in
-      (omega (arith, many, inside), subst (λ (q : List Event). length q ≤ 64) (sym h.1) (short_queue x.0 (omega (arith, as_many, inside)))))
+      (omega (arith, many, inside), subst (λ (q : List Event). length q ≤ 64) (sym h.1) (short_queue x.0 (omega (arith, as_many wanted c0 r, inside)))))
       (queues_in c3.revision) queued
 
   pub short_outputs : AllByRecursion (λ (x : Extension). (x.group < 64) × (x.kept + length x.bytes ≤ 65536)) (outputs_in c3.revision)
   short_outputs = each_map (Extends was to) (λ (x : Extension). (x.group < 64) × (x.kept + length x.bytes ≤ 65536)) (λ x e.
       let inside = e.inside in
-      let groups = own.formed.outputs in
+      let groups = (own wanted c0 r).formed.outputs in
       let cut : length (take x.kept (output_of was x.group)) ≡ x.kept = length-take-le x.kept (output_of was x.group) e.kept in
       let both = length-append (take x.kept (output_of was x.group)) x.bytes in
       let all = ap length e.is in
-      let short = output_short to aim x.group in
+      let short = output_short to (aim wanted c0 r) x.group in
       (omega (arith, inside, groups), omega (arith, cut, both, all, short)))
       (outputs_in c3.revision) extended
 
--- 4. All.
+-- what revising asks, and leads to
+pub record MayRevise (core to : Core) (slots : List Slot) (mask : ℕ) (revision : Revision) : Type 0 where
+  pub whole : IsCore (revised core (flags (length slots) mask) slots (queues_in revision) (outputs_in revision))
+  pub same : map identity_of slots ≡ map identity_of (slots_of core)
+  pub few : length slots ≤ 64
+  pub queues : AllByRecursion (λ (x : ℕ × List Event). (x.0 < length slots) × (length x.1 ≤ 64)) (queues_in revision)
+  pub outputs : AllByRecursion (λ (x : Extension). (x.group < 64) × (x.kept + length x.bytes ≤ 65536)) (outputs_in revision)
+  pub is : revised core (flags (length slots) mask) slots (queues_in revision) (outputs_in revision) ≡ to
+
+module _ (wanted : Names) (c0 c1 c2 c3 : code.Configs) (mask : ℕ) (one : (r : Reaches wanted c0) → HasReadSlots r.state.core c0 c1 mask)
+    (two : (r : Reaches wanted c1) → HasReadQueues r.state.core c1 c2) (three : (r : Reaches wanted c2) → HasReadOutputs r.state.core c2 c3) (r : Reaches wanted c0) where
+  pub reaches_1 : Reaches wanted c1
+  reaches_1 = reaches_still wanted c0 c1 r (one r).others (one r).room
+
+  pub reaches_2 : Reaches wanted c2
+  reaches_2 = reaches_still wanted c1 c2 reaches_1 (two reaches_1).others (ap (λ s. map identity_of s.items) (two reaches_1).room)
+
+  pub may_revise : (slots : List Slot) → slots ≡ c3.slots.items → MayRevise c3.core r.state.core slots mask c3.revision
+  may_revise slots e = subst (λ (l : List Slot). MayRevise c3.core r.state.core l mask c3.revision) (sym e) (record {
+    whole = whole wanted c0 c1 c2 c3 r mask (one r) (two reaches_1) (three reaches_2);
+    same = room_is wanted c0 c1 c2 c3 r mask (one r) (two reaches_1) (three reaches_2);
+    few = few_slots wanted c0 c1 c2 c3 r mask (one r) (two reaches_1) (three reaches_2);
+    queues = short_queues wanted c0 c1 c2 c3 r mask (one r) (two reaches_1) (three reaches_2);
+    outputs = short_outputs wanted c0 c1 c2 c3 r mask (one r) (two reaches_1) (three reaches_2);
+    is = core_is wanted c0 c1 c2 c3 r mask (one r) (two reaches_1) (three reaches_2);
+  })
+
+  pub has_put : (slots : List Slot) → slots ≡ c3.slots.items → (core : Core) → core ≡ revised c3.core (flags (length slots) mask) slots (queues_in c3.revision) (outputs_in c3.revision)
+      → HasPutCore r.state.core c0 (record c3 { core = core })
+  has_put slots e core is = record {
+    is = is ∙ (may_revise slots e).is;
+    room = ap (λ s. map identity_of s.items) ((three reaches_2).room ∙ (two reaches_1).room) ∙ (one r).room;
+    others = ap (λ (c : code.Configs). record c { core = core; slots = c3.slots; revision = c3.revision; changed = c3.changed })
+        ((three reaches_2).others ∙ ap (λ (c : code.Configs). record c { slots = c3.slots; revision = c3.revision; changed = c3.changed }) (two reaches_1).others
+        ∙ ap (λ (c : code.Configs). record c { slots = c3.slots; revision = c3.revision; changed = c3.changed }) (one r).others);
+  }
+
+-- 4. The memory, after the core.
+
+module _ (c0 c1 : code.Configs) (key : ℕ × ℕ) (h : HasConfiguration c0 key) (core : HasPutCore h.state.core c0 c1) where
+  pub memory_before : AreMemoryNames c1.store c1.mem.memory c1.names
+  memory_before =
+      subst (λ (c : code.Configs). AreMemoryNames c.store c.mem.memory c.names) (sym core.others)
+      (subst (λ m. AreMemoryNames c0.store m c0.names) (sym h.stands.machine.memory) h.stands.named.names.memory)
+
+  pub memory_wanted : (w : Names) → w ≡ h.is.names → AreMemoryNames c1.store h.state.memory w
+  memory_wanted w e =
+      subst (λ (c : code.Configs). AreMemoryNames c.store h.state.memory w) (sym core.others) (subst (AreMemoryNames c0.store h.state.memory) (sym e) h.is.are.memory)
+
+  pub is_paged : IsPaged h.state.memory
+  is_paged = record { pages = h.config.state.state.pages; fitting = h.config.state.fits.mapped }
+
+  pub same_frames : h.state.memory.frames ≡ c1.mem.memory.frames
+  same_frames =
+      h.config.state.fits.frames ∙ sym h.stands.machine.config.state.fits.frames ∙ ap (λ (m : Memory). m.frames) (sym h.stands.machine.memory)
+      ∙ ap (λ (c : code.Configs). c.mem.memory.frames) (sym core.others)
+
+-- 5. All.
 
 module _ (c0 c1 c4 : code.Configs) (key : ℕ × ℕ) (h : HasConfiguration c0 key) (core : HasPutCore h.state.core c0 c1) (more : HasMoreCells c1.store c4.store)
     (memory : c4.mem.memory ≡ h.state.memory) (uses : c4.mem.uses ≡ c1.mem.uses) (mapped : c4.mapped.items ≡ mapped_pages c4.mem.memory) (names : c4.names ≡ h.is.names) (rest : c4.rest ≡ key.1)

@@ -1,5 +1,5 @@
 -- What is read where the machine is put to another configuration.
-use Rattle.std.specs.Prelude.{◌≡◌, ◌⊎◌, ℕ, ◌<◌, ◌≤◌, if◌then◌else◌, true, false, List, [], ◌∷◌, ◌++◌, map, length, take, slice_get, slice_index_or, Some}
+use Rattle.std.specs.Prelude.{◌≡◌, ◌⊎◌, ℕ, ◌<◌, ◌≤◌, if◌then◌else◌, false, List, [], ◌∷◌, ◌++◌, map, length, take, slice_index_or}
 use Rattle.std.specs.List.{AllByRecursion}
 use Rattle.mm_model.specs.{Image.Image, Flags.flags, Fits.identity_of, State.{State, Core, output_of}}
 use Rattle.mm_model.specs.declared.event.Event.{Event}
@@ -42,15 +42,6 @@ pub record HasReadSlots (core : Core) (old new : code.Configs) (mask : ℕ) : Ty
       → (if slice_index_or (flags (length old.base.items) mask) k false then slice_index_or new.slots.items k no_slot else slot_in old.core k) ≡ slot_in core k
   pub room : map identity_of new.slots.items ≡ map identity_of old.slots.items
   pub others : KeepsAll old new
-
--- the slots of the first changes are read
-pub record SlotsSoFar (core : Core) (old now : code.Configs) (n mask : ℕ) : Type 0 where
-  pub each : (k : ℕ) → k < length old.base.items
-      → ((slice_index_or (flags (length old.base.items) mask) k false ≡ true) × (slice_index_or now.slots.items k no_slot ≡ slot_in core k))
-      ⊎ ((slice_index_or (flags (length old.base.items) mask) k false ≡ false)
-      × ((j : ℕ) (e : ℕ × ℕ) → j < n → slice_get now.changed.items j ≡ Some e → e.0 ≡ k → ⊥))
-  pub room : map identity_of now.slots.items ≡ map identity_of old.slots.items
-  pub others : KeepsAll old now
 
 -- an index is one of those listed
 abbrev pub IsListed : {A : Type 0} → (A → ℕ) → ℕ → List A → Type 0

@@ -1,8 +1,10 @@
 //! Outputs, each kept once.
 
-ghost use Rattle.std.specs.Prelude.{◌≡◌, ◌+◌, ◌<◌, ◌≤◌, [], IfOk, length};
+ghost use Rattle.std.specs.Prelude.{◌≡◌, ◌+◌, ◌<◌, ◌≤◌, ◌++◌, ℕ, List, [], IfOk, length, reverse, take};
+ghost use Rattle.std.specs.List.{AllByRecursion};
 ghost use Rattle.mm_pairs.specs.Named.{HasGrown, HaveOneName, IsNameOf};
 ghost use Rattle.mm_pairs.specs.Trees.{pair_of};
+ghost use Rattle.mm_config.specs.Naming.{IsChain};
 
 use indexmap::IndexSet;
 use std::alloc::{AllocError, Global};
@@ -60,6 +62,37 @@ impl Outputs {
             return (0, 0);
         }
         self.pairs.as_slice()[name as usize - 1]
+    }
+
+    /// How many bytes of an output of this length stay when another takes its place, and the bytes of the other after these.
+    pub(crate) fn changed(
+        &self,
+        alloc: Global,
+        was: u32,
+        wanted: u32,
+        len: usize,
+    ) -> Result<(usize, Vec<u8>), AllocError>
+        requires was { (old : List ℕ) × IsChain self.now (reverse old) was × (len ≡ length old) }
+        requires wanted { (new : List ℕ) × IsChain self.now (reverse new) wanted × AllByRecursion (λ byte. byte < 256) new }
+        ensures { IfOk result (λ r. (old new : List ℕ) → IsChain self.now (reverse old) was → len ≡ length old
+            → IsChain self.now (reverse new) wanted → (r.0 ≤ length old) × (take r.0 old ++ r.1.items ≡ new)) }
+    {
+        let mut bytes = Vec::new(alloc);
+        let mut kept = len;
+        let mut left = was;
+        let mut aim = wanted;
+        while left != aim {
+            if left > aim {
+                left = self.parts(left).0;
+                kept -= 1;
+            } else {
+                let (shorter, byte) = self.parts(aim);
+                aim = shorter;
+                bytes.push((byte - 1) as u8)?;
+            }
+        }
+        bytes.reverse();
+        Ok((kept, bytes))
     }
 
     /// Says, for proofs, that each output has one name. The call does nothing.

@@ -1,25 +1,17 @@
 //! Putting the machine to a configuration: the parts whose names differ are read.
 
-ghost use Rattle.std.specs.Prelude.{◌≡◌, ◌<◌, ◌≤◌, ◌++◌, ℕ, List, [], IfOk, OnOk, length, take};
-ghost use Rattle.std.specs.List.{AllByRecursion};
-ghost use Rattle.mm_config.specs.Forms.{slot_from};
-ghost use Rattle.mm_config.specs.Naming.{IsOutputName};
+ghost use Rattle.std.specs.Prelude.{◌≡◌, IfOk, OnOk};
 ghost use Rattle.mm_config.specs.Noting.{mapped_pages};
 ghost use Rattle.mm_config.specs.Keeping.{Stands};
 ghost use Rattle.mm_config.specs.Reaching.{HasConfiguration, Reaches, HasPutCore, HasReadSlots, HasReadQueues, HasReadOutputs};
-ghost use Rattle.mm_pairs.specs.Named.{named};
 
+use crate::changes::{mask_of, take_outputs, take_queues, take_slots};
 use crate::configs::Configs;
-use crate::events::take_events;
 use crate::names::Names;
 use crate::note::GROUPS;
 use crate::put_memory::put_memory;
-use crate::reader::Reader;
-use crate::slot_form::take_slot;
-use crate::store::Store;
 use mm_mem::Inspect;
-use mm_model::Slot;
-use std::alloc::{AllocError, Global};
+use std::alloc::AllocError;
 
 impl Configs {
     /// Puts the machine to the configuration of these names: of the slots, and of the rest.
@@ -74,13 +66,13 @@ impl Configs {
             0,
             &mut self.changed,
         )?;
-        let mut mask = 0;
-        for (at, name) in self.changed.as_slice() {
-            let at = *at as usize;
-            read_slot(&self.store, *name, &self.base[at], &mut self.slots[at]);
-            mask |= 1 << at;
-        }
-        Ok(mask)
+        take_slots(
+            &self.store.lists,
+            &self.base,
+            &self.changed,
+            &mut self.slots,
+        );
+        Ok(mask_of(&self.changed))
     }
 
     /// Reads the queues that change.
@@ -88,7 +80,6 @@ impl Configs {
         requires { Reaches wanted.now self.old }
         ensures { OnOk result ((r : Reaches wanted.now self.old) → HasReadQueues r.state.core self.old self.new) }
     {
-        self.revision.queues.clear();
         self.changed.clear();
         self.store.pairs.list_changed(
             self.names.queues,
@@ -97,12 +88,12 @@ impl Configs {
             0,
             &mut self.changed,
         )?;
-        for (at, name) in self.changed.as_slice() {
-            let mut events = Vec::new(self.alloc);
-            take_events(&mut Reader::new(self.store.lists.get(*name)), &mut events)?;
-            self.revision.queues.push((*at as usize, events))?;
-        }
-        Ok(())
+        take_queues(
+            self.alloc,
+            &self.store.lists,
+            &self.changed,
+            &mut self.revision.queues,
+        )
     }
 
     /// Reads the outputs that change.
@@ -110,7 +101,6 @@ impl Configs {
         requires { Reaches wanted.now self.old }
         ensures { OnOk result ((r : Reaches wanted.now self.old) → HasReadOutputs r.state.core self.old self.new) }
     {
-        self.revision.outputs.clear();
         self.changed.clear();
         self.store.pairs.list_changed(
             self.names.outputs,
@@ -119,13 +109,14 @@ impl Configs {
             0,
             &mut self.changed,
         )?;
-        for (group, name) in self.changed.as_slice() {
-            let was = self.store.pairs.leaf(self.names.outputs, GROUPS, *group);
-            let len = self.core.output(*group as u8).len();
-            let (kept, bytes) = changed_output(self.alloc, &self.store, was, *name, len)?;
-            self.revision.outputs.push((*group as u8, kept, bytes))?;
-        }
-        Ok(())
+        take_outputs(
+            self.alloc,
+            &self.store,
+            &self.core,
+            self.names.outputs,
+            &self.changed,
+            &mut self.revision.outputs,
+        )
     }
 
     /// Lists the mapped pages anew.
@@ -139,44 +130,4 @@ impl Configs {
         }
         Ok(())
     }
-}
-
-/// Reads the slot of a name.
-fn read_slot(store: &Store, name: u32, base: &Slot, slot: &mut Slot)
-    requires { name ≤ length store.now.lists }
-    ensures { slot.new ≡ slot_from base.now (named [] store.now.lists name) }
-{
-    take_slot(&mut Reader::new(store.lists.get(name)), base, slot);
-}
-
-/// How many bytes of an output stay when another takes its place, and the bytes of the other after these. The name of an
-/// output is greater than those of the shorter ones that it begins with.
-fn changed_output(
-    alloc: Global,
-    store: &Store,
-    was: u32,
-    wanted: u32,
-    len: usize,
-) -> Result<(usize, Vec<u8>), AllocError>
-    requires was { (old : List ℕ) × IsOutputName store.now old was × (len ≡ length old) }
-    requires wanted { (new : List ℕ) × IsOutputName store.now new wanted × AllByRecursion (λ byte. byte < 256) new }
-    ensures { IfOk result (λ r. (old new : List ℕ) → IsOutputName store.now old was → len ≡ length old → IsOutputName store.now new wanted
-        → (r.0 ≤ length old) × (take r.0 old ++ r.1.items ≡ new)) }
-{
-    let mut bytes = Vec::new(alloc);
-    let mut kept = len;
-    let mut was = was;
-    let mut wanted = wanted;
-    while was != wanted {
-        if was > wanted {
-            was = store.outputs.parts(was).0;
-            kept -= 1;
-        } else {
-            let (shorter, byte) = store.outputs.parts(wanted);
-            wanted = shorter;
-            bytes.push((byte - 1) as u8)?;
-        }
-    }
-    bytes.reverse();
-    Ok((kept, bytes))
 }

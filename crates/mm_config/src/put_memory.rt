@@ -42,6 +42,7 @@ pub(crate) fn put_memory(
     ensures more { OnOk result (HasMoreCells store.old store.new) }
 {
     store.pages.apart();
+    let _count = mem.pages();
     let height = was.height.max(wanted.height);
     let before = raised(&mut store.pairs, was, height)?;
     let after = raised(&mut store.pairs, wanted, height)?;

@@ -14,5 +14,5 @@ loop-k-preserved c =
     let names = c.args.names.now in
     let n : Names = record names { height = l._k; pages = l.tree } in
     let now = c.join.new.self in
-    deeper old l.pairs names n l.invariant now c.in_ok-tree.field-0 (l._k + 1) c.in_ok-tree.ensures.grown (grown_twice old l.pairs now l.invariant.grown c.in_ok-tree.ensures.grown)
+    deeper old l.pairs names n l.invariant now c.in_ok-tree.tree (l._k + 1) c.in_ok-tree.ensures.grown (grown_twice old l.pairs now l.invariant.grown c.in_ok-tree.ensures.grown)
     c.in_ok-tree.ensures.name (omega arith)
