@@ -176,7 +176,7 @@ module _ (i : Image) (old : code.Configs) (h : HasStarted i old) where
       pub started : (room : Vec ℕ Global) (pairs : List (ℕ × ℕ)) (rest : ℕ) (c4 : code.Configs) → c4 ≡ record c1 { store = record k2 { pairs = pairs }; names = n2; mapped = room; rest = rest }
           → room.items ≡ mapped_pages c1.mem.memory → Rattle.mm_pairs.specs.Named.HasGrown k2.pairs pairs → IsRest pairs n2 rest
           → Stands i (record { kept = []; machine = configuration (start i) }) c4
-      unfolding configuration
+      unfolding configuration start
       started room pairs rest c4 is listed grown is_rest =
           subst (Stands i (record { kept = []; machine = configuration (start i) })) (sym is) (record {
             image = h.image;
@@ -215,7 +215,6 @@ module _ (i : Image) (old : code.Configs) (h : HasStarted i old) where
           names_2 = other ∙ ap (λ (m : Names). record m { height = n2.height; pages = n2.pages }) names_1
 
           names : AreNamesOf i.slots c1.depth (record k2 { pairs = pairs }) (configuration (start i)) n2
-          unfolding start configuration
           names = subst (λ (core : Core). AreNamesOf i.slots c1.depth (record k2 { pairs = pairs }) (record { core = core; memory = i.memory; cycles = 0 }) n2) (sym bare_start) (record {
             slots = subst (λ d. AreLeaves (λ (x : Slot × Slot) name. IsSlotName (record k2 { pairs = pairs }) x.0 x.1 name) (zip i.slots (slots_of begun)) pairs d n2.slots) (sym depth)
                 (subst (AreLeaves (λ (x : Slot × Slot) name. IsSlotName (record k2 { pairs = pairs }) x.0 x.1 name) (zip i.slots (slots_of begun)) pairs old.depth) (sym (ap (λ (m : Names). m.slots) names_2))
