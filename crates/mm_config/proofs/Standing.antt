@@ -12,7 +12,7 @@ use Rattle.mm_config.specs.declared.{store.Store.Store, names.Names.Names}
 use Rattle.mm_config.specs.{Configurations.configuration, Machines.Configs, Naming.{AreNamesOf, AreMemoryNames, IsRest, IsKeptOnce}, Noting.{IsKeptStill, HasMoreCells, mapped_pages}}
 use Rattle.mm_config.specs.Keeping.{IsConfigurationOf, IsKeyOf, IsMachineAt, HasNamesOf, Stands}
 use Rattle.mm_config.specs.Reaching.{HasConfiguration, Reaches, HasPutCore, KeepsAll, HasReadSlots, HasReadQueues, HasReadOutputs, IsListed, Extends}
-pub use Rattle.mm_config.proofs.Reached.config_core
+pub use Rattle.mm_config.proofs.Reached.{config_core}
 use Rattle.mm_config.proofs.{Reached.{slots_rows, own, aim, base_rows, as_many, groups, few_base}, Keys.key_tells, Zips.{zip_long, zip_from, each_at}, Noted.still_more, Staying.{keys_stay, names_stay, rest_stays}, Revising.{LeadsTo, revised_is}}
 
 -- 1. A machine stands if it is at a configuration, with its names, and if what was kept still is.
