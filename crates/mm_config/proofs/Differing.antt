@@ -5,7 +5,7 @@ use Rattle.std.specs.Prelude.{zip}
 use Rattle.mm_model.specs.{Slot.Slot, Image.Image, Flags.flags, State.{ThreadRow, Core, State}, Fits.slots_of, Spelling.IsImage}
 use Rattle.mm_model.proofs.Bytes.Bitmaps.{length-flags}
 use Rattle.mm_thread.specs.SlotIndices.{no_slot, no_row, slot_in}
-use Rattle.mm_pairs.specs.{Named.HaveOneName, Trees.{leaves, changed}}
+use Rattle.mm_pairs.specs.{Named.HaveOneName, Trees.{leaves, changed, IsTree}}
 use Rattle.mm_config.specs.declared.store.Store.{Store}
 use Rattle.mm_config.specs.{Keeping.{IsConfigurationOf, IsKeyOf}, Machines.{AreApart, IsApartBy}, Naming.{AreLeaves, leaf_at}, Reads.mask_of}
 use Rattle.mm_config.proofs.{Masked.{IsMasked, IsChanged, changed_masked}, Reached.slots_rows, ReadSlots.{IsPairName, slot_left, slot_changed, one_slot_name}}
@@ -30,6 +30,9 @@ module _ (i : Image) (k : Store) (depth : ℕ) (a s : State) (one other : ℕ ×
 
   ns : AreLeaves (IsPairName k) (zip i.slots (slots_of s.core)) k.pairs depth other.0
   ns = subst (AreLeaves (IsPairName k) (zip i.slots (slots_of s.core)) k.pairs depth) (sym ks.slots) ks.are.slots
+
+  pub trees : IsTree k.pairs depth one.0 × IsTree k.pairs depth other.0
+  trees = (na.inner, ns.inner)
 
   pub inside : (j : ℕ) (e : ℕ × ℕ) → slice_get (key_changes k depth one other) j ≡ Some e → e.0 < length i.slots
   inside j e got = (slot_changed i k depth a s one.0 other.0 img ca cs na ns j e got).0

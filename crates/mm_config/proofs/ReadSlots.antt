@@ -161,7 +161,7 @@ module _ (wanted : Names) (c : code.Configs) (r : Reaches wanted c) where
   abbrev after : ℕ → List Slot
   after n = slots_read c.store.lists c.base.items (take n (slot_changes wanted c)) c.slots.items
 
-  made : ℕ × ℕ → Slot
+  abbrev made : ℕ × ℕ → Slot
   made e = slot_from (slice_index_or c.base.items e.0 no_slot) (named [] c.store.lists e.1)
 
   abbrev IsReadAt : ℕ → ℕ → Type 0

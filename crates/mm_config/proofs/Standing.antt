@@ -12,7 +12,7 @@ use Rattle.mm_config.specs.declared.{store.Store.Store, names.Names.Names}
 use Rattle.mm_config.specs.{Configurations.configuration, Machines.Configs, Naming.{AreNamesOf, AreMemoryNames, IsRest, IsKeptOnce}, Noting.{IsKeptStill, HasMoreCells, mapped_pages}}
 use Rattle.mm_config.specs.Keeping.{IsConfigurationOf, IsKeyOf, IsMachineAt, HasNamesOf, Stands}
 use Rattle.mm_config.specs.Reaching.{HasConfiguration, Reaches, HasPutCore, KeepsAll, HasReadSlots, HasReadQueues, HasReadOutputs, IsListed, Extends}
-pub use Rattle.mm_config.proofs.Reached.config_core
+pub use Rattle.mm_config.proofs.Reached.{config_core}
 use Rattle.mm_config.proofs.{Reached.{slots_rows, own, aim, base_rows, as_many, groups, few_base}, Keys.key_tells, Zips.{zip_long, zip_from, each_at}, Noted.still_more, Staying.{keys_stay, names_stay, rest_stays}, Revising.{LeadsTo, revised_is}}
 
 -- 1. A machine stands if it is at a configuration, with its names, and if what was kept still is.
@@ -50,7 +50,7 @@ stands_still i v old new h others room = subst (Stands i v) (sym others) (record
 })
 
 -- and reaches what it reached
-pub reaches_still : (wanted : Names) (old new : code.Configs) → Reaches wanted old → KeepsAll old new
+abbrev pub reaches_still : (wanted : Names) (old new : code.Configs) → Reaches wanted old → KeepsAll old new
     → map identity_of new.slots.items ≡ map identity_of old.slots.items → Reaches wanted new
 reaches_still wanted old new r others room = record {
   image = r.image;
@@ -74,7 +74,7 @@ module _ (c : code.Configs) (key : ℕ × ℕ) (h : HasConfiguration c key) wher
   pub wanted_is : (w : Names) → ((n : Names) → IsRest c.store.pairs n key.1 → w ≡ record n { slots = key.0 }) → w ≡ h.is.names
   wanted_is w is = is h.is.names h.is.rest ∙ ap (λ x. record h.is.names { slots = x }) h.is.slots
 
-  pub reaches_it : (w : Names) → w ≡ h.is.names → Reaches w c
+  abbrev pub reaches_it : (w : Names) → w ≡ h.is.names → Reaches w c
   reaches_it w e = record {
     image = h.image;
     at = h.at;
@@ -88,7 +88,7 @@ module _ (c : code.Configs) (key : ℕ × ℕ) (h : HasConfiguration c key) wher
 pub kept_long : (i : Image) (v : Configs) (c : code.Configs) → Stands i v c → length v.kept ≡ length c.kept.keys
 kept_long i v c h = zip_long (IsKeyOf i.slots c.depth c.store) v.kept c.kept.keys h.each
 
-pub has_kept : (i : Image) (v : Configs) (c : code.Configs) → Stands i v c → (at : ℕ) (key : ℕ × ℕ) → at < length v.kept → key ≡ slice_index_or c.kept.keys at (0, 0) → HasConfiguration c key
+abbrev pub has_kept : (i : Image) (v : Configs) (c : code.Configs) → Stands i v c → (at : ℕ) (key : ℕ × ℕ) → at < length v.kept → key ≡ slice_index_or c.kept.keys at (0, 0) → HasConfiguration c key
 has_kept i v c h at key lt same = record {
   image = i;
   at = v;
@@ -212,10 +212,10 @@ pub record MayRevise (core to : Core) (slots : List Slot) (mask : ℕ) (revision
 
 module _ (wanted : Names) (c0 c1 c2 c3 : code.Configs) (mask : ℕ) (one : (r : Reaches wanted c0) → HasReadSlots r.state.core c0 c1 mask)
     (two : (r : Reaches wanted c1) → HasReadQueues r.state.core c1 c2) (three : (r : Reaches wanted c2) → HasReadOutputs r.state.core c2 c3) (r : Reaches wanted c0) where
-  pub reaches_1 : Reaches wanted c1
+  abbrev pub reaches_1 : Reaches wanted c1
   reaches_1 = reaches_still wanted c0 c1 r (one r).others (one r).room
 
-  pub reaches_2 : Reaches wanted c2
+  abbrev pub reaches_2 : Reaches wanted c2
   reaches_2 = reaches_still wanted c1 c2 reaches_1 (two reaches_1).others (ap (λ s. map identity_of s.items) (two reaches_1).room)
 
   pub may_revise : (slots : List Slot) → slots ≡ c3.slots.items → MayRevise c3.core r.state.core slots mask c3.revision

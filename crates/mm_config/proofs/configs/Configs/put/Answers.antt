@@ -1,7 +1,23 @@
-use Rattle.std.proofs.Common.{◌≡◌, ℕ, length, slice_index_or, ap, arith}
+use Rattle.std.proofs.Common.{◌≡◌, ◌<◌, ℕ, length, slice_index_or, ap, arith}
 use Rattle.std.proofs.lemmas.{Option.slice_get-get_or, Result.on_ok_weaker}
 use Rattle.mm_config.proofs.Standing.{has_kept, kept_long}
 use Rattle.mm_config.proofs.configs.Configs.put.Goals as goal
+
+pub bounds-as_slice-at : goal.bounds-as_slice-at
+bounds-as_slice-at c =
+    let q = c.requires in
+    let long = kept_long q.0 q.1 c.args.self.now q.2 in
+    let keys = ap length c.as_slice.ensures.keys in
+    let low = q.3 in
+    omega (arith, long, keys, low)
+
+pub bounds-as_slice-at-2 : goal.bounds-as_slice-at-2
+bounds-as_slice-at-2 c =
+    let q = c.requires in
+    let long = kept_long q.0 q.1 c.args.self.now q.2 in
+    let keys = ap length c.as_slice.ensures.keys in
+    let low = q.3 in
+    omega (arith, long, keys, low)
 
 pub put_names-requires : goal.put_names-requires
 put_names-requires c =
