@@ -75,6 +75,29 @@ core_made i made versioned core slots version split rows same outputs v s is_ver
     s ∙ ap (λ (k : Core). record k { split = split }) v
     ∙ λ j. record { rows = (rows ∙ ap (λ (l : List Slot). map row_alone l) same) j; outputs = outputs j; version = is_version j; split = is_split j }
 
+-- the parts of a machine that begins
+pub begins : (i : Image) (c : code.Configs) → IsImage i → c.base.items ≡ i.slots → c.slots.items ≡ i.slots → c.depth ≤ 6 → length i.slots ≤ 2 ^ c.depth → c.core ≡ (start i).core
+    → c.mem.memory ≡ i.memory → c.mem.uses ≡ 0 → c.store ≡ record { pairs = []; outputs = []; lists = []; cells = []; pages = [] }
+    → c.names ≡ record { slots = 0; queues = 0; outputs = 0; height = 0; pages = 0 } → c.kept.keys ≡ [] → HasStarted i c
+unfolding start
+begins i c image base room deep wide core memory uses store names kept = record {
+  image = image;
+  base = base;
+  room = room;
+  deep = deep;
+  wide = wide;
+  core = core;
+  memory = memory;
+  uses = uses;
+  pairs = ap (λ (k : Store). k.pairs) store;
+  outputs = ap (λ (k : Store). k.outputs) store;
+  lists = ap (λ (k : Store). k.lists) store;
+  cells = ap (λ (k : Store). k.cells) store;
+  pages = ap (λ (k : Store). k.pages) store;
+  names = names;
+  kept = kept;
+}
+
 -- 2. All names.
 
 module _ (i : Image) (old : code.Configs) (h : HasStarted i old) where
