@@ -6,6 +6,7 @@ use Rattle.mm_config.specs.declared.configs.Configs as code
 use Rattle.mm_config.specs.{Configurations.configuration, Turning.HasStarted}
 use Rattle.mm_config.proofs.Started.{fresh_slots, of_version, none_pending, nothing_put_out, core_made, begins, first_kept}
 use Rattle.mm_config.proofs.configs.Configs.new.Goals as goal
+use Rattle.mm_config.proofs.configs.Configs.new.Goals.{After-pages-2}
 
 pub set_version-requires-clause-slots : goal.set_version-requires-clause-slots
 set_version-requires-clause-slots c =
@@ -18,7 +19,7 @@ pub set_split-requires : goal.set_split-requires
 set_split-requires c =
     none_pending c.args.img.now c.set_version.new.self c.slots.result.now c.slots.ensures.image (ap (λ k. k.rows) c.set_version.ensures ∙ c.in_ok-core.ensures.rows) c.slots.ensures.slots
 
-started_at : (c : goal.After-pages-2) → HasStarted c.args.img.now (record {
+started_at : (c : After-pages-2) → HasStarted c.args.img.now (record {
   alloc = c.args.alloc; base = c.in_ok-copies.field-0; core = c.core.inside.tables; mem = Rattle.mm_mem.specs.contracts.plain.PlainMem.the_view c.mem.inside; mapped = c.new-3.result;
   store = c.new-4.result; depth = c.depth_for.result; names = record { slots = 0; queues = 0; outputs = 0; height = 0; pages = 0 }; rest = 0; kept = c.new-5.result; slots = c.in_ok-copies-2.field-0;
   revision = c.new-6.result; changed = c.new-7.result; changed_cells = c.new-8.result; numbers = c.new-9.result;
@@ -39,10 +40,10 @@ note_all-requires c = (c.args.img.now, started_at c, c.pages-2.ensures.pages)
 pub keep-requires-clause-stands : goal.keep-requires-clause-stands
 keep-requires-clause-stands c =
     let i = c.args.img.now in
-    (i, record { kept = []; machine = configuration (start i) }, c.in_ok-note_all.ensures i (started_at c.before) c.pages-2.ensures.pages)
+    (i, record { kept = []; machine = configuration (start i) }, c.in_ok-note_all.ensures i (started_at (goal.at.keep-requires-clause-stands c).After-pages-2) c.pages-2.ensures.pages)
 
 pub returns : goal.returns
 returns c =
     let i = c.args.img.now in
     let machine = configuration (start i) in
-    first_kept i machine c.in_ok-keep.field-0 c.keep.new.self (c.in_ok-keep.ensures i (record { kept = []; machine = machine }) (c.in_ok-note_all.ensures i (started_at c.before) c.pages-2.ensures.pages))
+    first_kept i machine c.in_ok-keep.field-0 c.keep.new.self (c.in_ok-keep.ensures i (record { kept = []; machine = machine }) (c.in_ok-note_all.ensures i (started_at (goal.at.returns c).After-pages-2) c.pages-2.ensures.pages))
