@@ -17,6 +17,9 @@ pub mod NextState
 pub mod OwnCells
 pub mod NotedRest
 pub mod NotedWhole
+pub mod OneNote
+pub mod NotedMemory
+pub mod TurnMade
 pub mod ChangedLeaves
 pub mod Masked
 pub mod ReadSlots
@@ -24,6 +27,7 @@ pub mod Differing
 pub mod ReadQueues
 pub mod ReadOutputs
 pub mod StartNames
+pub mod Started
 pub mod Rising
 pub mod ChangedOutputs
 pub mod Revising

@@ -217,11 +217,11 @@ pub record WentAt (m now : Memory) (mapped : List ℕ) (at : ℕ) : Type 0 where
   pub got : slice_get mapped at ≡ Some page
   pub list : remove mapped at ≡ mapped_pages now
 
-came : (m : Memory) (p : ℕ) → page_at m p ≡ None → ComesIn (mapped_pages m) (mapped_pages (map_page m p)) p
+pub came : (m : Memory) (p : ℕ) → page_at m p ≡ None → ComesIn (mapped_pages m) (mapped_pages (map_page m p)) p
 unfolding map_page
 came m p none = comes_in m.pages p zero_page none
 
-went : (m : Memory) (p : ℕ) → T (is_sorted nat_cmp m.pages) → is_mapped m p ≡ true → GoesOut (mapped_pages m) (mapped_pages (unmap_page m p)) p
+pub went : (m : Memory) (p : ℕ) → T (is_sorted nat_cmp m.pages) → is_mapped m p ≡ true → GoesOut (mapped_pages m) (mapped_pages (unmap_page m p)) p
 unfolding unmap_page
 went m p up some = goes_out m.pages p up some
 

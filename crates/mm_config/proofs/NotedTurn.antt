@@ -4,8 +4,10 @@ use Rattle.std.proofs.lemmas.List.{length-map, get_or-map}
 use Rattle.std.specs.{Prelude.zip, List.AllByRecursion}
 use Rattle.mm_model.specs.declared.slot.Pending.{Pending}
 use Rattle.mm_model.specs.{Slot.Slot, Memory.Memory, Image.Image, State.{ThreadRow, Core, State, slot_at}, Run.{turn_of, after}}
+use Rattle.mm_model.specs.{Ask.ask, Effect.{Effect, effect, Effect.{Fault, Block, Deliver, Do}}}
+use Rattle.mm_model.specs.Turn.{faulted, blocked, ended, executed, reply, touch_of, asked_use}
 use Rattle.mm_model.specs.{Fits.{slots_of, identity_of, IsCore}, Turn.{turn, taken_by, taken_by_port, started, arrives, idle, is_running}, Spelling.IsImage}
-use Rattle.mm_model.proofs.{CoreRows.slot_at-number, TurnShapes.started_one}
+use Rattle.mm_model.proofs.{CoreRows.slot_at-number, SlotSteps.delivered_from, TurnShapes.{started_one, fetch_use}}
 use Rattle.mm_thread.specs.SlotIndices.{no_slot, no_row, slot_in, queue_in, with_slot}
 use Rattle.mm_thread.proofs.Sound.{turn_whole}
 use Rattle.mm_laws.{specs.Frames.LeavesTheRest, proofs.Left.turn_leaves}
@@ -22,8 +24,19 @@ second false b e = cc
 
 module _ (core : Core) (m : Memory) (n : ℕ) (byte : n < 256) where
   started_slot : (x : Slot) → (started core m x).step.slot ≡ x.number
-  started_slot x = started_one core m x (λ t. t.step.slot ≡ x.number)
-      (record { faults = λ c f done aim. refl; lacks_register = λ f i aim is lacking. refl; carries_out = λ f i aim is has. refl })
+  unfolding executed ended faulted blocked
+  started_slot x = started_one core m x (λ t. t.step.slot ≡ x.number) (record {
+    faults = λ cause f done aim. refl;
+    lacks_register = λ f instr aim is lacking. (delivered_from x).number;
+    carries_out = λ f instr aim is has.
+        elim (effect core.split instr x (reply core m x.number (ask instr x)))
+        as (λ y. (ended core m x instr f (touch_of (ask instr x)) (fetch_use f ∷ asked_use m (ask instr x)) y).step.slot ≡ x.number) [
+          Fault cause ↦ refl
+          | Block ↦ refl
+          | Deliver o ↦ refl
+          | Do d ↦ refl
+        ];
+  })
 
   arrived_slot : (x : Slot) (ps : List Pending) → (arrives core m x ps).step.slot ≡ x.number
   unfolding idle

@@ -1,5 +1,6 @@
 -- A machine stands at the configuration after a turn of which all was noted.
-use Rattle.std.proofs.Common.{◌≡◌, ◌≢◌, ◌⊎◌, inl, inr, ℕ, ◌<◌, ◌≤◌, ◌^◌, Option, Some, List, [], ◌∷◌, ◌++◌, ◌%◌, map, length, slice_index_or, refl, sym, ap, ◌∙◌, subst, arith}
+use Rattle.std.proofs.Common.{◌≡◌, ◌≢◌, ◌⊎◌, inl, inr, ℕ, ◌<◌, ◌≤◌, ◌^◌, Option, Some, None, List, [], ◌∷◌, ◌++◌, ◌%◌, map, length, slice_index_or, refl, sym, ap, ◌∙◌, subst, arith}
+use Rattle.std.proofs.Math.Seq.{take-length}
 use Rattle.std.proofs.lemmas.{Bool.cases_eq, List.{length-map, get_or-map}, Option.slice_get-get_or}
 use Rattle.std.specs.{Prelude.{zip, IfSome, IsBitSet, IsSomeAnd, ◌↔◌}, List.AllByRecursion}
 use Rattle.mm_model.specs.declared.{event.Event.Event, step.Step.Step, slot.SlotState.TheVariants.Running}
@@ -15,8 +16,8 @@ use Rattle.mm_config.specs.Naming.{AreNamesOf, AreMemoryNames, AreLeaves, IsOrNo
 use Rattle.mm_laws.specs.Frames.{OutputLeft, MemoryLeft}
 use Rattle.mm_config.specs.{Noting.{IsKeptStill, mapped_pages}, Keeping.{Stands, IsConfigurationOf}, Turning.{HasTurned, HasTrees, WasOutput, WasMemory, NotesLeaves, NotesSlots, NotesQueues, NotesOutputs, NotesMemory, IsServedBy, IsFaultHandler}}
 use Rattle.mm_config.proofs.{NextState.{core_before, core_after, frame, same_identities, uncounted_core, bare_core_whole, next_config, identities_bare}, NotedTurn.{turn_slot, zip_long, slots_long, slots_settled, queues_settled}}
-use Rattle.mm_config.proofs.{Staying.{leaves_stay_named, slot_stays, queue_stays, output_stays, memory_stays}, PageTrees.none_at, Noted.twice, NotedRest.{last_byte, output_named, outputs_settled, memory_alike}, States.after_state_of}
-use Rattle.mm_config.proofs.{Standing.stands_at, TurnNames.{base_identity, identity_in, slot_stays_in, queue_stays_in}}
+use Rattle.mm_config.proofs.{Staying.{leaves_stay_named, slot_stays, queue_stays, output_stays, memory_stays, rest_stays}, PageTrees.none_at, Noted.twice, NotedRest.{last_byte, output_named, outputs_settled, memory_alike}, States.after_state_of}
+use Rattle.mm_config.proofs.{Standing.stands_at, TurnNames.{base_identity, identity_in, missing_before, slot_stays_in, queue_stays_in}, Turned.nobody_turns}
 
 -- what no note changes
 record KeepsParts (old new : code.Configs) : Type 0 where
@@ -31,6 +32,15 @@ parts_twice a b c h g = record { base = g.base ∙ h.base; slots = g.slots ∙ h
 no_events : (q : List Event) → [] ≡ queue_form q → q ≡ []
 no_events [] e = refl
 no_events (x ∷ q) e = cc
+
+still_same : (k : Store) → IsKeptStill k k
+still_same k = record { pairs = take-length k.pairs; outputs = take-length k.outputs; lists = take-length k.lists; cells = take-length k.cells; pages = take-length k.pages }
+
+-- the name of the rest is that of other names that differ by the slots alone
+rest_alike : (pairs : List (ℕ × ℕ)) (n m : Names) (rest : ℕ) → record n { slots = m.slots } ≡ m → IsRest pairs m rest → IsRest pairs n rest
+rest_alike pairs n m rest e h =
+    let back : IsRest pairs (record n { slots = m.slots }) rest = subst (λ (x : Names). IsRest pairs x rest) (sym e) h in
+    record { two = back.two; others = back.others; events = back.events; depth = back.depth; all = back.all }
 
 uncounted_in : (core : Core) (k : ℕ) → k < length core.rows → slot_in (uncounted core) k ≡ uncounted_slot (slot_in core k)
 uncounted_in core k lt = ap (λ (row : ThreadRow). row.slot) (get_or-map uncounted_row core.rows k no_row no_row lt)
@@ -86,12 +96,41 @@ module _ (b : Before) (step : Step) (c : code.Configs) (t : HasTurned b step c) 
   bare_same : map identity_of (slots_of bare) ≡ map identity_of (slots_of s.core)
   bare_same = identities_bare later.rows ∙ same_identities i s t.item t.stands.image config
 
+  -- nobody has made the turn
+  pub nobody_stands : slot_at c.core step.slot ≡ None → Stands i (record t.at { machine = configuration (after s t.item) }) c
+  nobody_stands none =
+      let later_none : slot_at later (turn_of s t.item).step.slot ≡ None =
+      ap (λ (k : Core). slot_at k (turn_of s t.item).step.slot) (sym t.core) ∙ ap (λ (x : Step). slot_at c.core x.slot) (sym t.shown) ∙ none in
+      let before_none = missing_before s.core later before after_core (same_identities i s t.item t.stands.image config) (turn_of s t.item).step.slot later_none in
+      let same = (frame i s t.item t.stands.image config).nobody before_none in
+      subst (λ (x : State). Stands i (record t.at { machine = x }) c) (sym (nobody_turns s config.bare t.item (frame i s t.item t.stands.image config) before_none))
+      (stands_at i t.at s t.was c t.stands
+        (ap (λ (x : code.Configs). x.base) t.others)
+        (ap (λ (x : code.Configs). map identity_of x.slots.items) t.others)
+        (ap (λ (x : code.Configs). x.depth) t.others)
+        (ap (λ (x : code.Configs). x.kept) t.others)
+        (subst (IsKeptStill t.was.store) (sym (ap (λ (x : code.Configs). x.store) t.others)) (still_same t.was.store))
+        (record {
+          core = t.core ∙ same.0;
+          memory = t.memory ∙ same.1;
+          config = config;
+          uses = t.uses;
+          mapped = ap (λ (x : code.Configs). x.mapped.items) t.others ∙ t.stands.machine.mapped;
+        })
+        (record {
+          names = subst (λ (x : code.Configs). AreNamesOf i.slots x.depth x.store s x.names) (sym t.others) t.stands.named.names;
+          rest = subst (λ (x : code.Configs). IsRest x.store.pairs x.names x.rest) (sym t.others) t.stands.named.rest;
+        }))
+
   module _ (at : ℕ) (within : at < length c.core.rows) (number : (slot_in c.core at).number ≡ step.slot) where
     inside : at < length later.rows
     inside = subst (λ (k : Core). at < length k.rows) t.core within
 
+    at_within : at < length i.slots
+    at_within = let lt = inside in omega (arith, lt, rows_same, base_many)
+
     own : (slot_in later at).number ≡ (turn_of s t.item).step.slot
-    own = ap (λ (k : Core). (slot_in k at).number) (sym t.core) ∙ number ∙ ap (λ (x : Step). x.slot) t.step
+    own = ap (λ (k : Core). (slot_in k at).number) (sym t.core) ∙ number ∙ ap (λ (x : Step). x.slot) t.shown
 
     whole : IsCore bare
     whole = bare_core_whole i s t.item t.stands.image config at inside own
@@ -113,6 +152,9 @@ module _ (b : Before) (step : Step) (c : code.Configs) (t : HasTurned b step c) 
 
       pub base_1 : c1.base.items ≡ i.slots
       base_1 = ap (λ (x : code.Configs). x.base.items) rest_1 ∙ t.stands.base
+
+      pub in_base_1 : at < length c1.base.items
+      in_base_1 = subst (λ (l : List Slot). at < length l) (sym base_1) at_within
 
       -- there is a leaf for each slot
       long_base : length c1.base.items ≤ 2 ^ c1.depth
@@ -139,6 +181,9 @@ module _ (b : Before) (step : Step) (c : code.Configs) (t : HasTurned b step c) 
         pub base_2 : c2.base.items ≡ i.slots
         base_2 = ap (λ (x : code.Configs). x.base.items) slots.others ∙ base_1
 
+        pub in_base_2 : at < length c2.base.items
+        in_base_2 = subst (λ (l : List Slot). at < length l) (sym base_2) at_within
+
         bare_slot : (k : ℕ) → k < length s.core.rows → ((k ≡ at) ⊎ IsServedBy c1.base.items step.slot b.running k → ⊥) → slot_in bare k ≡ slot_in s.core k
         bare_slot k lt none =
             let same = same_identities i s t.item t.stands.image config in
@@ -148,7 +193,7 @@ module _ (b : Before) (step : Step) (c : code.Configs) (t : HasTurned b step c) 
             slot_stays_in s.core later before after_core same c1.base.items at (turn_of s t.item).step.slot b.running (ap (map identity_of) base_1 ∙ base_same) first there
             (subst (λ (core : Core). (n : ℕ) → IsBitSet b.running n ↔ IsSomeAnd (slot_at core n) (λ x. x.state ≡ Running)) t.stands.machine.core t.before.running)
             (frame i s t.item t.stands.image config).slots k lt (λ e. none (inl e))
-            (λ h. none (inr (subst (λ n. IsServedBy c1.base.items n b.running k) (ap (λ (x : Step). x.slot) (sym t.step)) h))) in
+            (λ h. none (inr (subst (λ n. IsServedBy c1.base.items n b.running k) (ap (λ (x : Step). x.slot) (sym t.shown)) h))) in
             uncounted_in later k (omega (arith, lt, rows_same)) ∙ ap uncounted_slot stays
             ∙ sym (uncounted_in s.core k lt) ∙ ap (λ (core : Core). slot_in core k) bare_before
 
@@ -202,7 +247,7 @@ module _ (b : Before) (step : Step) (c : code.Configs) (t : HasTurned b step c) 
               let there : (slot_in s.core at).number ≡ (turn_of s t.item).step.slot = ap (λ x. x.0) (sym (identity_in s.core later before after_core alike at first)) ∙ own in
               queue_bare later k (omega (arith, lt, rows_same))
               ∙ queue_stays_in s.core later before after_core alike c2.base.items at (turn_of s t.item).step.slot (turn_of s t.item).step.tick (ap (map identity_of) base_2 ∙ base_same) first there
-              (frame i s t.item t.stands.image config).queues k lt (λ h. none (inl (subst (λ (x : Step). IsFaultHandler c2.base.items x.tick at k) (sym t.step) h)))
+              (frame i s t.item t.stands.image config).queues k lt (λ h. none (inl (subst (λ (x : Step). IsFaultHandler c2.base.items x.tick at k) (sym t.shown) h)))
               (elim (cases_eq k at) [
                 | inr ne ↦ inl ne
                 | inl e ↦ elim (cases_eq c3.names.queues 0) [
@@ -226,6 +271,9 @@ module _ (b : Before) (step : Step) (c : code.Configs) (t : HasTurned b step c) 
               subst (AreLeaves (IsOutputName c3.store) s.core.outputs c3.store.pairs 6)
               (sym (ap (λ (x : code.Configs). x.names.outputs) queues.others ∙ ap (λ (x : code.Configs). x.names.outputs) slots.others))
               (leaves_stay_named (IsOutputName c1.store) (IsOutputName c3.store) (output_stays c1.store c3.store still) s.core.outputs c1.store.pairs c3.store.pairs still.pairs 6 c1.names.outputs names_1.outputs)
+
+          pub in_base_3 : at < length c3.base.items
+          in_base_3 = subst (λ (x : code.Configs). at < length x.base.items) (sym queues.others) in_base_2
 
           abbrev group : ℕ
           group = (slice_index_or c3.base.items at no_slot).group
@@ -313,7 +361,7 @@ module _ (b : Before) (step : Step) (c : code.Configs) (t : HasTurned b step c) 
                 record {
                   memory = s.memory;
                   left = subst (λ (m : Memory). MemoryLeft s.memory m step.touched) (sym (ap (λ x. x.memory) mem ∙ t.memory))
-                      (subst (λ (x : Step). MemoryLeft s.memory (turn_of s t.item).memory x.touched) (sym t.step) (frame i s t.item t.stands.image config).memory);
+                      (subst (λ (x : Step). MemoryLeft s.memory (turn_of s t.item).memory x.touched) (sym t.shown) (frame i s t.item t.stands.image config).memory);
                   whole = paged_of i s config.state.state config.state.fits;
                   names = memory_alike c4.store s.memory c1.names c4.names
                       (ap (λ (x : code.Configs). x.names.height) outputs.others ∙ ap (λ (x : code.Configs). x.names.height) queues.others ∙ ap (λ (x : code.Configs). x.names.height) slots.others)
@@ -322,6 +370,19 @@ module _ (b : Before) (step : Step) (c : code.Configs) (t : HasTurned b step c) 
                   mapped = ap (λ x. x.items) mapped ∙ t.stands.machine.mapped;
                   count = t.before.pages ∙ ap (λ (m : Memory). length m.pages) t.stands.machine.memory;
                 }
+
+            -- the name of the rest is as it was if those of its parts are
+            pub rest_left : (c5 : code.Configs) → NotesMemory c4 c5 → record c5.names { slots = c2.names.slots } ≡ c2.names → IsRest c5.store.pairs c5.names c5.rest
+            rest_left c5 memory same =
+                let still = twice c1.store c2.store c5.store slots.still (twice c2.store c3.store c5.store queues.still (twice c3.store c4.store c5.store outputs.still memory.still)) in
+                let first : IsRest c1.store.pairs c1.names c1.rest = subst (λ (x : code.Configs). IsRest x.store.pairs x.names x.rest) (sym rest_1) t.stands.named.rest in
+                let later_first = rest_stays c1.store c5.store still c1.names c1.rest first in
+                let named_2 : c2.names ≡ record c1.names { slots = c2.names.slots } = ap (λ (x : code.Configs). x.names) slots.others in
+                let second : IsRest c5.store.pairs c2.names c1.rest = rest_alike c5.store.pairs c2.names (record c1.names { slots = c2.names.slots }) c1.rest named_2
+                (record { two = later_first.two; others = later_first.others; events = later_first.events; depth = later_first.depth; all = later_first.all }) in
+                let rest_5 : c5.rest ≡ c1.rest =
+                ap (λ (x : code.Configs). x.rest) memory.others ∙ ap (λ (x : code.Configs). x.rest) outputs.others ∙ ap (λ (x : code.Configs). x.rest) queues.others ∙ ap (λ (x : code.Configs). x.rest) slots.others in
+                subst (IsRest c5.store.pairs c5.names) (sym rest_5) (rest_alike c5.store.pairs c5.names c2.names c1.rest same second)
 
             -- all
             module _ (c5 c6 : code.Configs) (memory : NotesMemory c4 c5) (last : c6 ≡ record c5 { store = c6.store; rest = c6.rest }) (more : IsKeptStill c5.store c6.store)
@@ -399,7 +460,7 @@ module _ (b : Before) (step : Step) (c : code.Configs) (t : HasTurned b step c) 
               depth_2 : c6.depth ≡ c2.depth
               depth_2 = depth_1 ∙ sym (ap (λ (x : code.Configs). x.depth) slots.others)
 
-              next : State
+              abbrev pub next : State
               next = configuration (after s t.item)
 
               named : AreNamesOf i.slots c6.depth c6.store next c6.names

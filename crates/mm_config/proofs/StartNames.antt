@@ -21,10 +21,3 @@ zero_leaves Is xs d pairs depth wide each = record {
     by : (at : ℕ) → (at < length xs) ⊎ (length xs ≤ at) → IsOrNone Is (slice_get xs at) 0
     by at (inl lt) = subst (λ o. IsOrNone Is o 0) (sym (slice_get-get_or xs at d lt)) (each at lt)
     by at (inr high) = subst (λ o. IsOrNone Is o 0) (sym (slice_get_past xs at high)) refl
-
--- the next leaf is named
-pub next_leaf : {A : Type 0} (Is Now : A → ℕ → Type 0) → ((x : A) (name : ℕ) → Is x name → Now x name) → (xs : List A) (d : A) (old new : List (ℕ × ℕ)) (depth was tree n : ℕ)
-    → n < length xs → length xs ≤ 2 ^ depth → AreLeaves Is (take n xs) old depth was → IsTree new depth tree
-    → Now (slice_index_or xs n d) (leaf_at new depth tree n) → ((k : ℕ) → (k ≡ n → ⊥) → leaf_at new depth tree k ≡ leaf_at old depth was k)
-    → AreLeaves Now (take (n + 1) xs) new depth tree
-next_leaf Is Now stable xs d old new depth was tree n lt wide of inner here there = ?

@@ -3,10 +3,10 @@ use Rattle.std.proofs.Common.{◌≡◌, ◌⊎◌, inl, inr, ℕ, ◌<◌, ◌�
 use Rattle.std.proofs.lemmas.{Option.{slice_get-get_or}, List.{length-map, get_or-map, get_or_default}}
 use Rattle.std.specs.Prelude.{IsBitSet, IsSomeAnd, ◌↔◌, zip}
 use Rattle.mm_model.specs.declared.{slot.SlotState.{TheVariants.Running}, step.Tick.{Tick}}
-use Rattle.mm_model.specs.{Slot.Slot, Image.Image, State.{ThreadRow, Core, State, slot_at, queue_at}, Run.turn_of, Turn.{Turned, is_running}}
+use Rattle.mm_model.specs.{Slot.Slot, Image.Image, State.{ThreadRow, Core, State, slot_of, slot_at, queue_at}, Run.turn_of, Turn.{Turned, is_running}}
 use Rattle.mm_model.specs.{Fits.{slots_of, identity_of, IsCore}, Spelling.IsImage}
 use Rattle.mm_thread.specs.SlotIndices.{no_slot, no_row, slot_in, queue_in, row_at}
-use Rattle.mm_thread.proofs.{Index.{slot_found, queue_found}, RowIndex.apart_in, Revised.{slots_many, same_at}}
+use Rattle.mm_thread.proofs.{Index.{slot_found, queue_found, row_in-none}, RowIndex.apart_in, Revised.{slots_many, same_at}}
 use Rattle.mm_laws.specs.Frames.{LeavesTheRest, SlotLeft, QueueLeft}
 use Rattle.mm_config.specs.Turning.{IsServedBy, IsFaultHandler}
 
@@ -31,6 +31,16 @@ module _ (core later : Core) (whole : IsCore core) (after : IsCore later) (same 
 
   number_in : (k : ℕ) → k < length core.rows → (slot_in later k).number ≡ (slot_in core k).number
   number_in k lt = ap (λ i. i.0) (identity_in k lt)
+
+  -- a number that none has later none had before
+  pub missing_before : (n : ℕ) → slot_at later n ≡ None → slot_at core n ≡ None
+  unfolding slot_at
+  missing_before n none =
+      ap slot_of (row_in-none core.rows n (λ k lt e.
+      let many = as_many in
+      let found = slot_found later (apart_in later after) k (omega (arith, many, lt)) in
+      let both : Some (slot_in later k) ≡ None = sym found ∙ ap (slot_at later) (number_in k lt ∙ e) ∙ none in
+      cc))
 
   -- a slot that is the same by its number is so by its index
   pub slot_same : (k : ℕ) → k < length core.rows → slot_at later (slot_in core k).number ≡ slot_at core (slot_in core k).number → slot_in later k ≡ slot_in core k

@@ -1,10 +1,12 @@
 -- What is noted of a turn.
-use Rattle.std.specs.Prelude.{◌≡◌, ◌⊎◌, ◌↔◌, ℕ, ◌<◌, ◌≤◌, ◌^◌, ◌%◌, List, [], ◌∷◌, ◌++◌, map, length, slice_index_or, Option, Some, IsSomeAnd}
+use Rattle.std.specs.Prelude.{◌≡◌, ◌⊎◌, ◌↔◌, true, ℕ, ◌<◌, ◌≤◌, ◌^◌, ◌%◌, List, [], ◌∷◌, ◌++◌, map, length, slice_index_or, Option, Some, IsSomeAnd}
 use Rattle.std.specs.Prelude.{IsBitSet, IfSome}
 use Rattle.mm_word.specs.declared.cause.Cause.{Cause}
 use Rattle.mm_model.specs.declared.{slot.SlotState.TheVariants.Running, step.{Step.Step, Tick.{Tick, TheVariants.Faulted}}}
 use Rattle.mm_word.specs.Access.{AccessValue}
-use Rattle.mm_model.specs.{Image.{Image, start}, Spelling.IsImage, Memory.{Memory, IsPaged}, Slot.Slot, State.{Core, slot_at, output_of}, Run.turn_of, Fits.{slots_of, identity_of}}
+use Rattle.mm_word.specs.declared.word.Cell.{Cell}
+use Rattle.mm_model.specs.Counted.{writes}
+use Rattle.mm_model.specs.{Image.{Image, start}, Spelling.IsImage, Memory.{Memory, IsPaged, put_cell}, Slot.Slot, State.{Core, slot_at, output_of}, Run.turn_of, Fits.{slots_of, identity_of}}
 use Rattle.mm_laws.specs.Frames.{MemoryLeft}
 use Rattle.mm_thread.specs.SlotIndices.{no_slot, slot_in, queue_in}
 use Rattle.mm_pairs.specs.Trees.{IsTree}
@@ -53,7 +55,7 @@ pub record HasTurned (b : Before) (step : Step) (c : code.Configs) : Type 0 wher
   pub core : c.core ≡ (turn_of at.machine item).core
   pub memory : c.mem.memory ≡ (turn_of at.machine item).memory
   pub uses : c.mem.uses < 2 ^ 61
-  pub step : step ≡ (turn_of at.machine item).step
+  pub shown : step ≡ (turn_of at.machine item).step
   pub others : c ≡ record was { core = c.core; mem = c.mem }
 
 -- 2. Leaves.
@@ -134,6 +136,22 @@ pub record WasMemory (touched : Option AccessValue) (pages : ℕ) (c : code.Conf
   pub names : AreMemoryNames c.store memory c.names
   pub mapped : c.mapped.items ≡ mapped_pages memory
   pub count : pages ≡ length memory.pages
+
+-- a memory is as it was, or a word that an access writes has another cell
+abbrev pub IsSameButWord : Option AccessValue → Memory → Memory → Type 0
+IsSameButWord touched m now =
+    (now ≡ m) ⊎ ((a : AccessValue) × (c : Cell) × (touched ≡ Some a) × (writes a.kind ≡ true) × (now ≡ put_cell m a.addr c))
+
+-- the page that came or went is noted, and no word that an access wrote
+pub record NotesPage (touched : Option AccessValue) (old new : code.Configs) : Type 0 where
+  pub still : IsKeptStill old.store new.store
+  pub memory : Memory
+  pub left : IsSameButWord touched memory new.mem.memory
+  pub whole : IsPaged new.mem.memory
+  pub names : AreMemoryNames new.store memory new.names
+  pub pages : HasOtherPages old.names new.names
+  pub mapped : new.mapped.items ≡ mapped_pages new.mem.memory
+  pub others : new ≡ record old { store = new.store; names = new.names; mapped = new.mapped }
 
 -- the names of the memory are noted
 pub record NotesMemory (old new : code.Configs) : Type 0 where

@@ -1,13 +1,15 @@
 //! Noting what a turn may have changed: its slot, the slots that this handles and that did not run, the queue of its handler
 //! and its own, the output of its group, a page, and the word that it accessed.
 
-ghost use Rattle.std.specs.Prelude.{◌≡◌, ◌≢◌, ◌⊎◌, ◌<◌, [], OnOk, length, slice_index_or};
+ghost use Rattle.std.specs.Prelude.{◌≡◌, ◌≢◌, ◌⊎◌, ◌<◌, ◌^◌, ◌%◌, true, [], Option, Some, IfSome, OnOk, length, slice_index_or};
+ghost use Rattle.mm_word.specs.Access.{AccessValue};
+ghost use Rattle.mm_model.specs.Counted.{writes};
 ghost use Rattle.mm_model.specs.Image.{Image as ImageValue, start};
 ghost use Rattle.mm_model.specs.Run.{after};
 ghost use Rattle.mm_config.specs.Configurations.{configuration};
 ghost use Rattle.mm_config.specs.Keeping.{Stands};
 ghost use Rattle.mm_config.specs.Turning.{HasStarted, HasTurned, IsBefore, HasTrees, NotesSlots, IsServedBy, NotesQueues};
-ghost use Rattle.mm_config.specs.Turning.{WasOutput, NotesOutputs, WasMemory, NotesMemory, IsFaultHandler};
+ghost use Rattle.mm_config.specs.Turning.{WasOutput, NotesOutputs, WasMemory, NotesPage, NotesMemory, IsFaultHandler};
 ghost use Rattle.mm_thread.specs.SlotIndices.{no_slot};
 
 use crate::configs::Configs;
@@ -35,7 +37,10 @@ pub(crate) struct Before {
 }
 
 /// The word of a cell that an access may have written.
-fn written(access: Option<Access>) -> Option<u64> {
+fn written(access: Option<Access>) -> Option<u64>
+    ensures aligned { IfSome result (λ word. (word % 8 ≡ 0) × (word < 2 ^ 54)) }
+    ensures all { (a : AccessValue) → access ≡ Some a → writes a.kind ≡ true → result ≡ Some a.addr }
+{
     let access = access?;
     match access.kind() {
         Kind::Store | Kind::LoadSet => Some(access.addr()),
@@ -87,11 +92,14 @@ impl Configs {
         self.note_slots(at, step.slot, before.running)?;
         let was = self.names;
         self.note_queues(at, step)?;
-        self.note_output(self.base[at].group, before.put_out)?;
+        let slot = &self.base[at];
+        let group = slot.group;
+        self.note_output(group, before.put_out)?;
         self.note_memory(step, before.pages)?;
-        if !self.names.is_same_rest(&was) {
-            self.rest = self.names.rest(&mut self.store.pairs)?;
+        if self.names.is_same_rest(&was) {
+            return Ok(());
         }
+        self.rest = self.names.rest(&mut self.store.pairs)?;
         Ok(())
     }
 
@@ -126,6 +134,7 @@ impl Configs {
         requires { HasTrees self.old }
         ensures { OnOk result (NotesSlots (IsServedBy self.old.base.items handler running) self.old self.new) }
     {
+        self.core.known();
         for at in 0..self.base.len() {
             let slot = &self.base[at];
             if slot.handler == Some(handler) && running >> slot.number & 1 == 0 {
@@ -142,15 +151,24 @@ impl Configs {
         ensures { OnOk result (NotesQueues (λ k. IsFaultHandler self.old.base.items step.now.tick at k
             ⊎ ((k ≡ at) × (self.new.names.queues ≢ 0))) self.old self.new) }
     {
-        if let Tick::Faulted(_) = step.tick {
-            if let Some(handler) = self.base[at].handler {
-                self.note_queue_of(handler)?;
-            }
+        self.note_fault(at, step.tick)?;
+        if self.names.queues == 0 {
+            return Ok(());
         }
-        if self.names.queues != 0 {
-            self.note_queue(at)?;
+        self.note_queue(at)
+    }
+
+    /// Notes the queue of the handler of the slot at an index, if this has faulted.
+    fn note_fault(&mut self, at: usize, tick: Tick) -> Result<(), AllocError>
+        requires trees { HasTrees self.old }
+        requires within { at < length self.old.base.items }
+        ensures { OnOk result (NotesQueues (IsFaultHandler self.old.base.items tick at) self.old self.new) }
+    {
+        let slot = &self.base[at];
+        match (tick, slot.handler) {
+            (Tick::Faulted(_), Some(handler)) => self.note_queue_of(handler),
+            _ => Ok(()),
         }
-        Ok(())
     }
 
     /// Notes the queue of the slot of a number.
@@ -159,6 +177,7 @@ impl Configs {
         ensures { OnOk result (NotesQueues (λ k. (k < length self.old.base.items)
             × ((slice_index_or self.old.base.items k no_slot).number ≡ number)) self.old self.new) }
     {
+        self.core.known();
         match self.core.place(number) {
             Some(at) => self.note_queue(at),
             None => Ok(()),
@@ -207,17 +226,27 @@ impl Configs {
         requires { WasMemory step.now.touched pages self.old }
         ensures { OnOk result (NotesMemory self.old self.new) }
     {
-        if self.mem.pages() != pages {
-            note_page(
-                &mut self.store,
-                &mut self.names,
-                &mut self.mapped,
-                &self.mem,
-            )?;
-        }
+        self.note_mapped(pages)?;
         match written(step.touched) {
             Some(word) => note_cell(&mut self.store, &mut self.names, &self.mem, word),
             None => Ok(()),
         }
+    }
+
+    /// Notes the page that a turn mapped or unmapped, if it did, given how many were mapped before.
+    fn note_mapped(&mut self, pages: u32) -> Result<(), AllocError>
+        requires { (touched : Option AccessValue) × WasMemory touched pages self.old }
+        ensures { OnOk result ((touched : Option AccessValue) → WasMemory touched pages self.old → NotesPage touched self.old self.new) }
+    {
+        if self.mem.pages() == pages {
+            return Ok(());
+        }
+        note_page(
+            &mut self.store,
+            &mut self.names,
+            &mut self.mapped,
+            &self.mem,
+        )?;
+        Ok(())
     }
 }

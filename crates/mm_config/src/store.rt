@@ -1,5 +1,6 @@
 //! What the parts of configurations are kept in.
 
+ghost use Rattle.std.specs.Prelude.{◌≡◌, []};
 ghost use Rattle.mm_config.specs.Naming.{IsKeptOnce};
 
 use crate::cells::Cells;
@@ -23,7 +24,9 @@ pub(crate) struct Store {
 
 impl Store {
     /// Nothing yet.
-    pub(crate) fn new(alloc: Global) -> Store {
+    pub(crate) fn new(alloc: Global) -> Store
+        ensures { result ≡ record { pairs = []; outputs = []; lists = []; cells = []; pages = [] } }
+    {
         Store {
             pairs: Pairs::new(alloc),
             outputs: Outputs::new(alloc),

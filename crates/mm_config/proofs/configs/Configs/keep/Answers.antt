@@ -1,8 +1,8 @@
-use Rattle.std.proofs.Common.{◌≡◌, ℕ, Bool, true, false, not, if◌then◌else◌, [], ◌∷◌, ◌++◌, sym, ap, ◌∙◌, refl, arith}
+use Rattle.std.proofs.Common.{◌≡◌, ℕ, Bool, true, false, not, if◌then◌else◌, [], ◌∷◌, ◌++◌, slice_get, sym, ap, ◌∙◌, refl, arith}
 use Rattle.std.specs.List.{list_any}
 use Rattle.mm_config.specs.Keeping.{IsKeyOf}
 use Rattle.mm_pairs.proofs.Inserts.{found_at, same_pair}
-use Rattle.mm_config.proofs.{Keys.{keeps_known, keeps_full, keeps_new}, Zips.zip_long}
+use Rattle.mm_config.proofs.{Keys.{keeps_known, keeps_full, keeps_new, keeps_again}, Zips.zip_long}
 use Rattle.mm_config.proofs.configs.Configs.keep.Goals as goal
 
 negated : (b c : Bool) → c ≡ not b → b ≡ not c
@@ -44,4 +44,11 @@ returns-then-new c =
     λ i v h. keeps_new i v me c.apart.ensures h c.args.limit (record me { kept = now }) none (omega (arith, low, all)) c.requires.few refl keys
 
 pub returns-else-new : goal.returns-else-new
-returns-else-new c = ?
+returns-else-new c =
+    let me = c.args.self.now in
+    let key : ℕ × ℕ = (me.names.slots, me.rest) in
+    let now = c.insert_full.new.self in
+    let some = negated (list_any (same_pair key) me.kept.keys) false (sym c.if-new.false ∙ c.in_ok-at.ensures.added) in
+    let keys : now.keys ≡ me.kept.keys = c.in_ok-at.ensures.keys ∙ ap (λ b. if b then me.kept.keys else me.kept.keys ++ key ∷ []) some in
+    let stored = c.in_ok-at.ensures.stored in
+    λ i v h. keeps_again i v me c.apart.ensures h c.args.limit c.in_ok-at.at (record me { kept = now }) stored.0 refl keys (ap (λ l. slice_get l c.in_ok-at.at) (sym keys) ∙ stored.1) stored.2
