@@ -1,5 +1,5 @@
 use Rattle.std.proofs.Common.{◌≡◌, ◌<◌, ◌≤◌, ◌++◌, ℕ, List, length, ap, ◌∙◌, sym, subst, refl, arith}
-use Rattle.std.specs.{List.AllByRecursion, Vec.with_items}
+use Rattle.std.{specs.{List.AllByRecursion, Vec.with_items}, proofs.lemmas.List.with_items_is}
 use Rattle.mm_model.specs.Slot.{Slot}
 use Rattle.mm_config.specs.declared.configs.Configs as code
 use Rattle.mm_config.specs.{Reads.{mask_of, slots_read}, Reaching.HasReadSlots}
@@ -34,6 +34,7 @@ returns c = λ r.
     let changes = c.in_ok-list_changed.ensures ∙ ap (λ l. l ++ slot_changes w me) c.clear.ensures.items in
     let list = c.deref-2.ensures.value ∙ changes in
     let now : code.Configs = record me { slots = with_items me.slots c.take_slots.new.slots; changed = c.list_changed.new.out } in
-    let is = c.take_slots.ensures ∙ (λ j. slots_read me.store.lists (c.deref.ensures.value j) (list j) (c.deref_mut.ensures.value j)) in
+    let long = c.take_slots.auto.slots in
+    let is = with_items_is me.slots c.take_slots.new.slots (omega (arith, long, c.deref_mut.ensures.len)) ∙ c.take_slots.ensures ∙ (λ j. slots_read me.store.lists (c.deref.ensures.value j) (list j) (c.deref_mut.ensures.value j)) in
     let mask = c.mask_of.ensures ∙ ap mask_of (c.deref-3.ensures.value ∙ changes) in
     subst (HasReadSlots r.state.core me now) (sym mask) (slots_are_read w me r now is refl)
