@@ -43,11 +43,11 @@ module _ {A : Type 0} (Is : A → ℕ → Type 0) (d : A) (xs ys : List A) (pair
   left p lt = elim (cases_eq (leaf_at pairs depth n p) (leaf_at pairs depth m p)) [
     | inl same ↦ inr same
     | inr other ↦
-      let wide = hy.wide in
-      let all = length_leaves pairs depth m in
-      let at = change_at 0 (leaves pairs depth n) (leaves pairs depth m) long p (omega (arith, lt, wide, all)) other in
-      let first : 0 + p ≡ p = omega arith in
-      inl (at.0, at.1 ∙ ap (λ q. Some (q, leaf_at pairs depth m p)) first)
+        let wide = hy.wide in
+        let all = length_leaves pairs depth m in
+        let at = change_at 0 (leaves pairs depth n) (leaves pairs depth m) long p (omega (arith, lt, wide, all)) other in
+        let first : 0 + p ≡ p = omega arith in
+        inl (at.0, at.1 ∙ ap (λ q. Some (q, leaf_at pairs depth m p)) first)
   ]
 
 -- 2. What was read of changes.

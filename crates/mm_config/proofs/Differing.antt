@@ -46,11 +46,11 @@ module _ (i : Image) (k : Store) (depth : ℕ) (a s : State) (one other : ℕ ×
       let many_s = slots_rows i s cs in
       apart_at (flags (length i.slots) mask) (slots_of a.core) (slots_of s.core) (length-flags (length i.slots) mask ∙ many_a ∙ sym rows_a) (rows_a ∙ sym many_a ∙ many_s ∙ sym rows_s)
       (λ p within.
-        let lt : p < length i.slots = omega (arith, within, rows_a, many_a) in
-        let is_a = get_or-map (λ (row : ThreadRow). row.slot) a.core.rows p no_row no_slot (omega (arith, within, rows_a)) in
-        let is_s = get_or-map (λ (row : ThreadRow). row.slot) s.core.rows p no_row no_slot (omega (arith, lt, many_s)) in
-        subst (λ x. IsApartBy (slice_index_or (flags (length i.slots) mask) p false) x (slice_index_or (slots_of s.core) p no_slot)) (sym is_a)
-        (subst (IsApartBy (slice_index_or (flags (length i.slots) mask) p false) (slot_in a.core p)) (sym is_s) (by p lt (so p lt))))
+      let lt : p < length i.slots = omega (arith, within, rows_a, many_a) in
+      let is_a = get_or-map (λ (row : ThreadRow). row.slot) a.core.rows p no_row no_slot (omega (arith, within, rows_a)) in
+      let is_s = get_or-map (λ (row : ThreadRow). row.slot) s.core.rows p no_row no_slot (omega (arith, lt, many_s)) in
+      subst (λ x. IsApartBy (slice_index_or (flags (length i.slots) mask) p false) x (slice_index_or (slots_of s.core) p no_slot)) (sym is_a)
+      (subst (IsApartBy (slice_index_or (flags (length i.slots) mask) p false) (slot_in a.core p)) (sym is_s) (by p lt (so p lt))))
     where
       n : ℕ
       n = length (key_changes k depth one other)
@@ -72,7 +72,7 @@ module _ (i : Image) (k : Store) (depth : ℕ) (a s : State) (one other : ℕ ×
           let there = h.1 in
           let change = slot_changed i k depth a s one.0 other.0 img ca cs na ns there.0 there.1 there.2 in
           set (slice_index_or (flags (length i.slots) mask) p false) (slot_in a.core p) (slot_in s.core p) h.0 (λ same.
-            change.2 (ap (leaf_at k.pairs depth one.0) there.3 ∙ one_slot_name i k depth a s one.0 other.0 img ca cs na ns once p lt same ∙ ap (leaf_at k.pairs depth other.0) (sym there.3)))
+          change.2 (ap (leaf_at k.pairs depth one.0) there.3 ∙ one_slot_name i k depth a s one.0 other.0 img ca cs na ns once p lt same ∙ ap (leaf_at k.pairs depth other.0) (sym there.3)))
       by p lt (inr h) =
           unset (slice_index_or (flags (length i.slots) mask) p false) (slot_in a.core p) (slot_in s.core p) h.0
           (slot_left i k depth a s one.0 other.0 img ca cs na ns p lt (λ j e got same. let in_list = slice_get_within (key_changes k depth one other) j e got in h.1 j e in_list got same))

@@ -53,9 +53,9 @@ one_masked changes Is Next count n mask e few so got lt others here = λ p low. 
       λ j f low there at. elim (up_to j n low) [
         | inl before ↦ was.1 j f before there at
         | inr last ↦
-          let two : ◌≡◌ {A = Option (ℕ × ℕ)} (Some f) (Some e) = sym there ∙ ap (slice_get changes) last ∙ got in
-          let one : f ≡ e = cc in
-          ne (sym at ∙ ap (λ (x : ℕ × ℕ). x.0) one)
+            let two : ◌≡◌ {A = Option (ℕ × ℕ)} (Some f) (Some e) = sym there ∙ ap (slice_get changes) last ∙ got in
+            let one : f ≡ e = cc in
+            ne (sym at ∙ ap (λ (x : ℕ × ℕ). x.0) one)
       ],
     )
 

@@ -117,9 +117,9 @@ module _ (m now : Memory) (word : ℕ) (c : Cell) (is : now ≡ put_cell m word 
       by None e = ap (λ (v : Memory). page_at v q) (is ∙ put_cell-unmapped m word c e)
       by (Some cells) e = elim (cases_eq q (page_of word)) [
         | inl same ↦
-          let set = here cells e in
-          let none = sym (ap (λ (o : Option (List Cell)). cell_in o (place_of word)) set) ∙ none_in in
-          ap (page_at now) same ∙ set ∙ ap Some (set_past cells (place_of word) c none) ∙ sym e ∙ ap (page_at m) (sym same)
+            let set = here cells e in
+            let none = sym (ap (λ (o : Option (List Cell)). cell_in o (place_of word)) set) ∙ none_in in
+            ap (page_at now) same ∙ set ∙ ap Some (set_past cells (place_of word) c none) ∙ sym e ∙ ap (page_at m) (sym same)
         | inr ne ↦ others q ne
       ]
 

@@ -92,7 +92,14 @@ module _ (touched : Option AccessValue) (pages : ℕ) (c : code.Configs) (w : Wa
   pub page_is_noted : (store : Store) (names : Names) (new : code.Configs) → new ≡ record c { store = store; names = names; mapped = new.mapped } → IsPaged c.mem.memory
       → AreMemoryNames store c.mem.memory names → new.mapped.items ≡ mapped_pages c.mem.memory → IsKeptStill c.store store → HasOtherPages c.names names → NotesPage touched c new
   page_is_noted store names new is whole named mapped still others = subst (NotesPage touched c) (sym is) (record {
-    still = still; memory = c.mem.memory; left = inl refl; whole = whole; names = named; pages = others; mapped = mapped; others = refl;
+    still = still;
+    memory = c.mem.memory;
+    left = inl refl;
+    whole = whole;
+    names = named;
+    pages = others;
+    mapped = mapped;
+    others = refl;
   })
 
 -- 3. A word.

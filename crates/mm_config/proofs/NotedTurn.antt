@@ -31,7 +31,7 @@ module _ (core : Core) (m : Memory) (n : ℕ) (byte : n < 256) where
     carries_out = λ f instr aim is has.
         elim (effect core.split instr x (reply core m x.number (ask instr x)))
         as (λ y. (ended core m x instr f (touch_of (ask instr x)) (fetch_use f ∷ asked_use m (ask instr x)) y).step.slot ≡ x.number) [
-          Fault cause ↦ refl
+          | Fault cause ↦ refl
           | Block ↦ refl
           | Deliver o ↦ refl
           | Do d ↦ refl

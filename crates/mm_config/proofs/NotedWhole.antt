@@ -105,22 +105,22 @@ module _ (b : Before) (step : Step) (c : code.Configs) (t : HasTurned b step c) 
       let same = (frame i s t.item t.stands.image config).nobody before_none in
       subst (λ (x : State). Stands i (record t.at { machine = x }) c) (sym (nobody_turns s config.bare t.item (frame i s t.item t.stands.image config) before_none))
       (stands_at i t.at s t.was c t.stands
-        (ap (λ (x : code.Configs). x.base) t.others)
-        (ap (λ (x : code.Configs). map identity_of x.slots.items) t.others)
-        (ap (λ (x : code.Configs). x.depth) t.others)
-        (ap (λ (x : code.Configs). x.kept) t.others)
-        (subst (IsKeptStill t.was.store) (sym (ap (λ (x : code.Configs). x.store) t.others)) (still_same t.was.store))
-        (record {
-          core = t.core ∙ same.0;
-          memory = t.memory ∙ same.1;
-          config = config;
-          uses = t.uses;
-          mapped = ap (λ (x : code.Configs). x.mapped.items) t.others ∙ t.stands.machine.mapped;
-        })
-        (record {
-          names = subst (λ (x : code.Configs). AreNamesOf i.slots x.depth x.store s x.names) (sym t.others) t.stands.named.names;
-          rest = subst (λ (x : code.Configs). IsRest x.store.pairs x.names x.rest) (sym t.others) t.stands.named.rest;
-        }))
+      (ap (λ (x : code.Configs). x.base) t.others)
+      (ap (λ (x : code.Configs). map identity_of x.slots.items) t.others)
+      (ap (λ (x : code.Configs). x.depth) t.others)
+      (ap (λ (x : code.Configs). x.kept) t.others)
+      (subst (IsKeptStill t.was.store) (sym (ap (λ (x : code.Configs). x.store) t.others)) (still_same t.was.store))
+      (record {
+        core = t.core ∙ same.0;
+        memory = t.memory ∙ same.1;
+        config = config;
+        uses = t.uses;
+        mapped = ap (λ (x : code.Configs). x.mapped.items) t.others ∙ t.stands.machine.mapped;
+      })
+      (record {
+        names = subst (λ (x : code.Configs). AreNamesOf i.slots x.depth x.store s x.names) (sym t.others) t.stands.named.names;
+        rest = subst (λ (x : code.Configs). IsRest x.store.pairs x.names x.rest) (sym t.others) t.stands.named.rest;
+      }))
 
   module _ (at : ℕ) (within : at < length c.core.rows) (number : (slot_in c.core at).number ≡ step.slot) where
     inside : at < length later.rows

@@ -302,7 +302,7 @@ module _ (g before : ℕ) (c : code.Configs) (w : WasOutput g before c) where
   pub no_output_noted : length (output_of c.core g) ≡ before → NotesOutputs (λ k. k ≡ g) c c
   no_output_noted same = record {
     still = still_same c.store;
-    leaves = record { inner = w.inner; each = λ k. elim (cases_eq k g) [ | inl e ↦ inl (here k e) | inr ne ↦ inr (ne, refl) ] };
+    leaves = record { inner = w.inner; each = λ k. elim (cases_eq k g) [ inl e ↦ inl (here k e) | inr ne ↦ inr (ne, refl) ] };
     others = refl;
   }
     where

@@ -97,7 +97,7 @@ module _ (k : Store) (was wanted number : ℕ) (old : Plain) where
       → HasPut old new number (Some cells)
   all_cells n new cells so end are =
       let same = same_numbers so.names after (so.way.long ∙ long) (arrived before after (λ index name. index < n) so.names long so.way (λ j e got.
-        let lt = slice_get_within (changed 0 before after) j e got in omega (arith, lt, end))) in
+      let lt = slice_get_within (changed 0 before after) j e got in omega (arith, lt, end))) in
       let alike = cells_tell k.cells so.cells cells after (subst (Are k so.cells) same so.are) are.names in
       subst (λ (l : List Cell). HasPut old new number (Some l)) alike so.put
 

@@ -30,8 +30,7 @@ module _ (wanted : Names) (c : code.Configs) (r : Reaches wanted c) where
       let inside = h.0 in
       let low : e.0 < length a.outputs = omega (arith, inside, many) in
       let all = (own wanted c r).formed.outputs in
-      let core = r.stands.machine.core in
-      (
+      let core = r.stands.machine.core in (
         subst (λ (k : Core). e.0 < length k.outputs) (sym core) low,
         record {
           small = omega (arith, low, all);
@@ -60,9 +59,9 @@ module _ (wanted : Names) (c : code.Configs) (r : Reaches wanted c) where
       elim (left Is [] a s c.store.pairs 6 c.names.outputs wanted.outputs own_names r.names.outputs many g lt) [
         | inl h ↦ inl h
         | inr same ↦
-          let one = leaf_named Is [] a c.store.pairs 6 c.names.outputs own_names g low in
-          let two = leaf_named Is [] s c.store.pairs 6 wanted.outputs r.names.outputs g lt in
-          inr (outputs_tell c.store (slice_index_or a g []) (slice_index_or s g []) (leaf_at c.store.pairs 6 wanted.outputs g) (subst (Is (slice_index_or a g [])) same one) two)
+            let one = leaf_named Is [] a c.store.pairs 6 c.names.outputs own_names g low in
+            let two = leaf_named Is [] s c.store.pairs 6 wanted.outputs r.names.outputs g lt in
+            inr (outputs_tell c.store (slice_index_or a g []) (slice_index_or s g []) (leaf_at c.store.pairs 6 wanted.outputs g) (subst (Is (slice_index_or a g [])) same one) two)
       ]
 
   -- 2. All outputs.
@@ -84,7 +83,7 @@ module _ (wanted : Names) (c : code.Configs) (r : Reaches wanted c) where
             (all_at (λ (e : ℕ × ℕ). (e.0 < length c.core.outputs) × IsWanted e) (output_changes wanted c) (λ j e got. let h = output_entry j e got in (h.0, h.2))) are;
         rest = λ g lt. elim (output_left g (omega (arith, lt, same, many))) [
           | inl h ↦ inl (listed_zip (λ (x : Extension). x.group) (IsOutputRead c.store c.core) (λ e x is. is.group) (output_changes wanted c) (outputs_in now.revision) are h.0
-            (g, leaf_at c.store.pairs 6 wanted.outputs g) h.1)
+              (g, leaf_at c.store.pairs 6 wanted.outputs g) h.1)
           | inr is ↦ inr (ap (λ (k : Core). output_of k g) core ∙ is)
         ];
         queues = queues;

@@ -44,10 +44,10 @@ module _ (wanted : Names) (c : code.Configs) (r : Reaches wanted c) where
       elim (left Is no_row a.core.rows s.core.rows c.store.pairs c.depth c.names.queues wanted.queues own r.names.queues many p lt) [
         | inl h ↦ inl h
         | inr same ↦
-          let one = leaf_named Is no_row a.core.rows c.store.pairs c.depth c.names.queues own p low in
-          let two = leaf_named Is no_row s.core.rows c.store.pairs c.depth wanted.queues r.names.queues p lt in
-          let forms : queue_form (queue_in a.core p) ≡ queue_form (queue_in s.core p) = sym one.is ∙ ap (named [] c.store.lists) same ∙ two.is in
-          inr (queue_tells (queue_in a.core p) (queue_in s.core p) (events_kept r.image a r.stands.machine.config p low) (events_kept r.image s r.config p lt) forms)
+            let one = leaf_named Is no_row a.core.rows c.store.pairs c.depth c.names.queues own p low in
+            let two = leaf_named Is no_row s.core.rows c.store.pairs c.depth wanted.queues r.names.queues p lt in
+            let forms : queue_form (queue_in a.core p) ≡ queue_form (queue_in s.core p) = sym one.is ∙ ap (named [] c.store.lists) same ∙ two.is in
+            inr (queue_tells (queue_in a.core p) (queue_in s.core p) (events_kept r.image a r.stands.machine.config p low) (events_kept r.image s r.config p lt) forms)
       ]
 
 -- 2. All queues.
@@ -64,13 +64,13 @@ queues_are_read wanted c r now is room others =
     let Queued : ℕ × List Event → Type 0 = λ x. (x.0 < length c.core.rows) × (x.1 ≡ queue_in r.state.core x.0) in
     record {
       queues = subst (AllByRecursion Queued) (sym is) (all_map (reads.queue_read c.store.lists) Queued (queue_changes wanted c)
-        (all_at (λ (e : ℕ × ℕ). Queued (reads.queue_read c.store.lists e)) (queue_changes wanted c) (λ j e got.
+          (all_at (λ (e : ℕ × ℕ). Queued (reads.queue_read c.store.lists e)) (queue_changes wanted c) (λ j e got.
           let h = queue_entry wanted c r j e got in
           let low = h.0 in
           (omega (arith, low, rows, many), queue_back wanted c r e h))));
       rest = λ p lt. elim (queue_left wanted c r p (omega (arith, lt, rows, many))) [
         | inl h ↦ inl (subst (IsListed (λ (x : ℕ × List Event). x.0) p) (sym is)
-          (listed_map (reads.queue_read c.store.lists) (λ (x : ℕ × List Event). x.0) (λ e. refl) (queue_changes wanted c) h.0 (p, leaf_at c.store.pairs c.depth wanted.queues p) h.1))
+            (listed_map (reads.queue_read c.store.lists) (λ (x : ℕ × List Event). x.0) (λ e. refl) (queue_changes wanted c) h.0 (p, leaf_at c.store.pairs c.depth wanted.queues p) h.1))
         | inr same ↦ inr (ap (λ (k : Core). queue_in k p) core ∙ same)
       ];
       room = room;

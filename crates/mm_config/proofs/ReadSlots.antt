@@ -195,11 +195,11 @@ module _ (wanted : Names) (c : code.Configs) (r : Reaches wanted c) where
       so = all_masked changes IsReadAt (length c.base.items) (few_base wanted c r) (λ j e got. (slot_entry wanted c r j e got).within)
           (λ n p e got ne was. ap (λ l. slice_index_or l p no_slot) (step n e got) ∙ get_or-set_other (after n) e.0 p (made e) no_slot ne ∙ was)
           (λ n e got.
-            let h = slot_entry wanted c r n e got in
-            let low = h.within in
-            let long = read_long c.store.lists c.base.items (take n changes) c.slots.items in
-            let many = as_many_slots in
-            ap (λ l. slice_index_or l e.0 no_slot) (step n e got) ∙ get_or-set_same (after n) e.0 (made e) no_slot (omega (arith, low, long, many)) ∙ h.is)
+          let h = slot_entry wanted c r n e got in
+          let low = h.within in
+          let long = read_long c.store.lists c.base.items (take n changes) c.slots.items in
+          let many = as_many_slots in
+          ap (λ l. slice_index_or l e.0 no_slot) (step n e got) ∙ get_or-set_same (after n) e.0 (made e) no_slot (omega (arith, low, long, many)) ∙ h.is)
 
       all : after (length changes) ≡ now.slots.items
       all = ap (λ l. slots_read c.store.lists c.base.items l c.slots.items) (take_all (length changes) changes (omega arith)) ∙ sym is

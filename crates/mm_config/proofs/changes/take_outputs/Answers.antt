@@ -22,7 +22,7 @@ loop-group-preserved c =
     let more = zip_more (IsOutputRead k core) (take i changes) (map extension l.outputs.items) e x l.invariant c.in_ok-kept.ensures in
     subst (λ es. AllZip (IsOutputRead k core) es (map extension c.push.new.self.items)) (sym (take_more changes i (0, 0) c.loop-group-test.true))
     (subst (AllZip (IsOutputRead k core) (take i changes ++ e ∷ []))
-      (sym (ap (map extension) c.in_ok-push.ensures.items ∙ map-append extension l.outputs.items ((e.0, c.in_ok-kept.kept, c.in_ok-kept.bytes) ∷ []))) more)
+    (sym (ap (map extension) c.in_ok-push.ensures.items ∙ map-append extension l.outputs.items ((e.0, c.in_ok-kept.kept, c.in_ok-kept.bytes) ∷ []))) more)
 
 pub returns : goal.returns
 returns c =

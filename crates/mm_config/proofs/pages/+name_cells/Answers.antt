@@ -36,5 +36,5 @@ returns-clause-tree t c =
     let right = c.in_ok-right.right in
     IfOk-weaker c.join.result (λ tree. IsNameOf (0, 0) c.join.new.self tree (left, right)) _
     (λ tree. cells_joined c.name_cells.new.store c.name_cells-2.new.store c.join.new.self d c.args.depth left right tree first second c.args.cells.now is both
-      c.in_ok-right.ensures.more c.in_ok-left.ensures.tree c.in_ok-right.ensures.tree c.join.ensures.grown)
+    c.in_ok-right.ensures.more c.in_ok-left.ensures.tree c.in_ok-right.ensures.tree c.join.ensures.grown)
     c.join.ensures.name

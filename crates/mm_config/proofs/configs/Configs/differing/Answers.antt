@@ -53,7 +53,7 @@ mask_of-requires c =
     let few = few_slots_of q.0 a.state a.config q.2.image in
     let list = c.deref.ensures.value ∙ c.in_ok-list_changed.ensures ∙ ap (λ l. l ++ key_changes me.store me.depth one other) c.new-changed.ensures.items in
     subst (AllByRecursion (λ (e : ℕ × ℕ). e.0 < 64)) (sym list) (all_at (λ (e : ℕ × ℕ). e.0 < 64) (key_changes me.store me.depth one other) (λ j e got.
-      let low = inside q.0 me.store me.depth a.state b.state one other q.2.image a.config b.config a.is b.is j e got in omega (arith, low, few)))
+    let low = inside q.0 me.store me.depth a.state b.state one other q.2.image a.config b.config a.is b.is j e got in omega (arith, low, few)))
 
 pub returns : goal.returns
 returns c = λ i v h.

@@ -20,9 +20,21 @@ set_split-requires c =
     none_pending c.args.img.now c.set_version.new.self c.slots.result.now c.slots.ensures.image (ap (λ k. k.rows) c.set_version.ensures ∙ c.in_ok-core.ensures.rows) c.slots.ensures.slots
 
 started_at : (c : After-pages-2) → HasStarted c.args.img.now (record {
-  alloc = c.args.alloc; base = c.in_ok-copies.field-0; core = c.core.inside.tables; mem = Rattle.mm_mem.specs.contracts.plain.PlainMem.the_view c.mem.inside; mapped = c.new-3.result;
-  store = c.new-4.result; depth = c.depth_for.result; names = record { slots = 0; queues = 0; outputs = 0; height = 0; pages = 0 }; rest = 0; kept = c.new-5.result; slots = c.in_ok-copies-2.field-0;
-  revision = c.new-6.result; changed = c.new-7.result; changed_cells = c.new-8.result; numbers = c.new-9.result;
+  alloc = c.args.alloc;
+  base = c.in_ok-copies.field-0;
+  core = c.core.inside.tables;
+  mem = Rattle.mm_mem.specs.contracts.plain.PlainMem.the_view c.mem.inside;
+  mapped = c.new-3.result;
+  store = c.new-4.result;
+  depth = c.depth_for.result;
+  names = record { slots = 0; queues = 0; outputs = 0; height = 0; pages = 0 };
+  rest = 0;
+  kept = c.new-5.result;
+  slots = c.in_ok-copies-2.field-0;
+  revision = c.new-6.result;
+  changed = c.new-7.result;
+  changed_cells = c.new-8.result;
+  numbers = c.new-9.result;
 })
 started_at c =
     let i = c.args.img.now in

@@ -76,7 +76,7 @@ note_output-requires c =
     let group : c.slot.inside.group ≡ (slice_index_or c3.base.items at no_slot).group = ap (λ (s : Slot). s.group) (c.slot.view_is ∙ slot) in
     subst (λ g. WasOutput g c.args.before.put_out c3) (sym group)
     (was_output c.args.before c.args.step.now me c.requires at within c.in-Some.ensures.number (record me { core = c.uncount.new.self }) core_1 c.note_slots.new.self c.in_ok-note_slots.ensures
-      c3 c.in_ok-note_queues.ensures)
+    c3 c.in_ok-note_queues.ensures)
 
 pub note_memory-requires : goal.note_memory-requires
 note_memory-requires c =
@@ -115,9 +115,9 @@ returns-then-is_same_rest c =
     let outputs = subst (λ g. NotesOutputs (λ k. k ≡ g) c3 c4) group c.in_ok-note_output.ensures in
     let same = c.is_same_rest.ensures.0 c.if-is_same_rest.true in
     λ t. stands_after c.args.before c.args.step.now me t at within c.in-Some.ensures.number (record me { core = c.uncount.new.self }) core_1 c.note_slots.new.self c.in_ok-note_slots.ensures
-      c3 c.in_ok-note_queues.ensures c4 outputs c5 c5 c.in_ok-note_memory.ensures refl (still_same c5.store)
-      (rest_left c.args.before c.args.step.now me t at within c.in-Some.ensures.number (record me { core = c.uncount.new.self }) core_1 c.note_slots.new.self c.in_ok-note_slots.ensures
-        c3 c.in_ok-note_queues.ensures c4 outputs c5 c.in_ok-note_memory.ensures same)
+    c3 c.in_ok-note_queues.ensures c4 outputs c5 c5 c.in_ok-note_memory.ensures refl (still_same c5.store)
+    (rest_left c.args.before c.args.step.now me t at within c.in-Some.ensures.number (record me { core = c.uncount.new.self }) core_1 c.note_slots.new.self c.in_ok-note_slots.ensures
+    c3 c.in_ok-note_queues.ensures c4 outputs c5 c.in_ok-note_memory.ensures same)
 
 pub returns : goal.returns
 returns c =
@@ -139,5 +139,5 @@ returns c =
     let pairs = c.rest.new.pairs in
     let c6 = record c5 { store = record c5.store { pairs = pairs }; rest = c.in_ok-self.field-0 } in
     λ t. stands_after c.args.before c.args.step.now me t at within c.in-Some.ensures.number (record me { core = c.uncount.new.self }) core_1 c.note_slots.new.self c.in_ok-note_slots.ensures
-      c3 c.in_ok-note_queues.ensures c4 outputs c5 c6 c.in_ok-note_memory.ensures refl
-      (still_more c5.store (record c5.store { pairs = pairs }) (more_pairs c5.store pairs c.in_ok-self.ensures.grown)) c.in_ok-self.ensures.rest
+    c3 c.in_ok-note_queues.ensures c4 outputs c5 c6 c.in_ok-note_memory.ensures refl
+    (still_more c5.store (record c5.store { pairs = pairs }) (more_pairs c5.store pairs c.in_ok-self.ensures.grown)) c.in_ok-self.ensures.rest

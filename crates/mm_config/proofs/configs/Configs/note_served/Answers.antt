@@ -26,11 +26,11 @@ loop-at-preserved c =
     let inside = c.loop-at-test.true in
     let all = c.len-at-end.ensures in
     elim c.if-eq.branch [
-      then-eq+then-running-slot-eq0+in_ok-note_slot w ↦
+      | then-eq+then-running-slot-eq0+in_ok-note_slot w ↦
           subst (NotesSlots (IsServedBelow me.base.items c.args.handler c.args.running (l.at + 1)) me) (sym w.self-is)
           (one_served c.args.handler c.args.running l.at me l.self c.requires l.invariant w.note_slot.new.self w.in_ok-note_slot.ensures)
       | else-eq w ↦ elim w.else-eq.branch [
-        else-eq-via-then-eq+else-running-slot-eq0 v ↦
+        | else-eq-via-then-eq+else-running-slot-eq0 v ↦
             subst (NotesSlots (IsServedBelow me.base.items c.args.handler c.args.running (l.at + 1)) me) (sym (w.self-is ∙ v.self-is))
             (none_served c.args.handler c.args.running l.at me l.self c.requires l.invariant c.index-slot.result.now (omega (arith, inside, all)) c.index-slot.ensures
             (λ handled rests. rests (bit_from c.args.running c.index-slot.result.now.number (subst (λ (s : Slot). bit_and (c.args.running / 2 ^ s.number) 1 ≡ 0 → ⊥) c.slot.view_is v.if-running-slot-eq0.false))))

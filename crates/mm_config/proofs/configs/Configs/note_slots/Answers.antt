@@ -16,4 +16,4 @@ returns c =
     let own = c.in_ok-note_slot.ensures in
     on_ok_weaker c.note_served.result
     (λ served. slots_twice (λ k. k ≡ c.args.at) (IsServedBy me.base.items c.args.number c.args.running) me mid new own
-      (subst (λ (l : List Slot). NotesSlots (IsServedBy l c.args.number c.args.running) mid new) (ap (λ (x : code.Configs). x.base.items) own.others) served)) c.note_served.ensures
+    (subst (λ (l : List Slot). NotesSlots (IsServedBy l c.args.number c.args.running) mid new) (ap (λ (x : code.Configs). x.base.items) own.others) served)) c.note_served.ensures

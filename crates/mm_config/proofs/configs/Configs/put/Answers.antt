@@ -31,9 +31,9 @@ returns c =
     let q = c.requires in
     let at = c.args.at in
     on_ok_weaker c.put_names.result (λ put i v h.
-      let one = kept_long q.0 q.1 me q.2 in
-      let two = kept_long i v me h in
-      let lt : at < length v.kept = let low = q.3 in omega (arith, one, two, low) in
-      let there = has_kept i v me h at (slice_index_or c.as_slice.result.now at (0, 0)) lt (ap (λ l. slice_index_or l at (0, 0)) c.as_slice.ensures.keys) in
-      (there.state, slice_get-get_or v.kept at v.machine lt, put there))
+    let one = kept_long q.0 q.1 me q.2 in
+    let two = kept_long i v me h in
+    let lt : at < length v.kept = let low = q.3 in omega (arith, one, two, low) in
+    let there = has_kept i v me h at (slice_index_or c.as_slice.result.now at (0, 0)) lt (ap (λ l. slice_index_or l at (0, 0)) c.as_slice.ensures.keys) in
+    (there.state, slice_get-get_or v.kept at v.machine lt, put there))
     c.put_names.ensures
