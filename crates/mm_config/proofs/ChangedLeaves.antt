@@ -1,5 +1,5 @@
 -- The leaves in which one tree differs from another, what they are names of, and lists of what was read of them.
-use Rattle.std.proofs.Common.{◌≡◌, ◌⊎◌, inl, inr, ℕ, zero, suc, ◌+◌, ◌<◌, ◌≤◌, ◌^◌, List, [], ◌∷◌, map, length, slice_get, slice_index_or, Some, refl, sym, ap, ◌∙◌, subst, arith}
+use Rattle.std.proofs.Common.{◌≡◌, ◌⊎◌, inl, inr, ℕ, zero, suc, ◌+◌, ◌<◌, ◌≤◌, List, [], ◌∷◌, map, length, slice_get, slice_index_or, Some, refl, sym, ap, ◌∙◌, subst, arith}
 use Rattle.std.proofs.lemmas.{Bool.{cases_eq, cases_lt}, Option.{slice_get-get_or, slice_get_past}}
 use Rattle.std.specs.List.{AllByRecursion, AllZip}
 use Rattle.mm_pairs.{specs.Trees.{leaves, changed}, proofs.Names.length_leaves}

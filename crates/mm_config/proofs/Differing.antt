@@ -1,8 +1,8 @@
 -- The slots in which two configurations differ.
-use Rattle.std.proofs.Common.{◌≡◌, ◌⊎◌, inl, inr, ℕ, zero, suc, ◌+◌, ◌*◌, ◌%◌, ◌<◌, ◌≤◌, ◌^◌, Bool, true, false, List, [], ◌∷◌, length, slice_get, slice_index_or, bit_or, Some, refl, sym, ap, ◌∙◌, subst, arith}
+use Rattle.std.proofs.Common.{◌≡◌, inl, inr, ℕ, suc, ◌<◌, ◌≤◌, Bool, true, false, List, [], ◌∷◌, length, slice_get, slice_index_or, Some, sym, ap, ◌∙◌, subst, arith}
 use Rattle.std.proofs.lemmas.{List.{get_or-map, length-map}, Option.slice_get_within}
 use Rattle.std.specs.Prelude.{zip}
-use Rattle.mm_model.specs.{Slot.Slot, Image.Image, Flags.flags, State.{ThreadRow, Core, State}, Fits.slots_of, Spelling.IsImage}
+use Rattle.mm_model.specs.{Slot.Slot, Image.Image, Flags.flags, State.{ThreadRow, State}, Fits.slots_of, Spelling.IsImage}
 use Rattle.mm_model.proofs.Bytes.Bitmaps.{length-flags}
 use Rattle.mm_thread.specs.SlotIndices.{no_slot, no_row, slot_in}
 use Rattle.mm_pairs.specs.{Named.HaveOneName, Trees.{leaves, changed, IsTree}}

@@ -1,5 +1,5 @@
 -- The places of changes that are set in a mask, one after the other.
-use Rattle.std.proofs.Common.{◌≡◌, ◌≢◌, ◌⊎◌, inl, inr, ℕ, zero, suc, ◌+◌, ◌*◌, ◌%◌, ◌<◌, ◌≤◌, ◌^◌, Bool, true, false, List, length, slice_get, slice_set, slice_index_or, take, bit_or, Option, Some, refl, sym, ap, ◌∙◌, subst, arith, eqb}
+use Rattle.std.proofs.Common.{◌≡◌, ◌⊎◌, inl, inr, ℕ, zero, suc, ◌+◌, ◌*◌, ◌%◌, ◌<◌, ◌≤◌, ◌^◌, Bool, true, false, List, length, slice_get, slice_set, slice_index_or, take, bit_or, Option, Some, refl, sym, ap, ◌∙◌, subst, arith, eqb}
 use Rattle.std.proofs.lemmas.{Bool.cases_eq, List.{get_or-set_same, get_or-set_other}, Nat.{one_shl, Bits.{bit_at_set_same, bit_at_set_other}}, List.Sums.fold_more, List.take_all, Option.slice_get-get_or}
 use Rattle.std.specs.Int.{w64}
 use Rattle.mm_model.{specs.Flags.flags, proofs.Bytes.Bitmaps.length-flags}

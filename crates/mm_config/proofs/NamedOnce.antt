@@ -8,7 +8,7 @@ use Rattle.mm_model.specs.Memory.{zero_cell}
 use Rattle.mm_pairs.specs.{Named.{named, HaveOneName, IsNameOf}, Trees.{pair_of, leaves, IsTree}}
 use Rattle.mm_pairs.proofs.Names.{trees_apart, length_leaves}
 use Rattle.mm_config.specs.declared.{store.Store.Store, names.Names.Names}
-use Rattle.mm_config.specs.Naming.{IsChain, IsOutputName, AreCells, IsPageName, IsOrNone, leaf_at, AreLeaves, IsLow, IsTreeOfPages, IsRest}
+use Rattle.mm_config.specs.Naming.{IsChain, IsOutputName, IsPageName, IsOrNone, leaf_at, AreLeaves, IsLow, IsRest}
 use Rattle.mm_config.proofs.PageTrees.{past, in_right, none_tree, none_at}
 
 -- 1. Elements.

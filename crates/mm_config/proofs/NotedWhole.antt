@@ -11,7 +11,7 @@ use Rattle.mm_thread.specs.SlotIndices.{no_slot, no_row, slot_in, queue_in, with
 use Rattle.mm_thread.proofs.{Index.slot_found, Revised.slots_many, RowIndex.apart_in}
 use Rattle.mm_config.specs.declared.configs.Configs as code
 use Rattle.mm_config.specs.declared.{note.Before.Before, store.Store.Store, names.Names.Names}
-use Rattle.mm_config.specs.{Configurations.{uncounted_slot, uncounted_row, uncounted, configuration}, Machines.Configs, Forms.queue_form}
+use Rattle.mm_config.specs.{Configurations.{uncounted_slot, uncounted_row, uncounted, configuration}, Forms.queue_form}
 use Rattle.mm_config.specs.Naming.{AreNamesOf, AreMemoryNames, AreLeaves, IsOrNone, IsRest, IsSlotName, IsQueueName, IsOutputName, leaf_at}
 use Rattle.mm_laws.specs.Frames.{OutputLeft, MemoryLeft}
 use Rattle.mm_config.specs.{Noting.{IsKeptStill, mapped_pages}, Keeping.{Stands, IsConfigurationOf}, Turning.{HasTurned, HasTrees, WasOutput, WasMemory, NotesLeaves, NotesSlots, NotesQueues, NotesOutputs, NotesMemory, IsServedBy, IsFaultHandler}}

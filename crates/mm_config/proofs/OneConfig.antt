@@ -1,14 +1,13 @@
 -- Names are the same exactly if they are of one configuration.
-use Rattle.std.proofs.Common.{◌≡◌, ℕ, zero, suc, reverse, ◌+◌, ◌<◌, ◌≤◌, Bool, true, false, List, [], ◌∷◌, map, length, slice_get, slice_index_or, Option, Some, None, inl, inr, refl, sym, ap, ◌∙◌, subst, arith, T}
-use Rattle.std.specs.{Prelude.zip, List.AllByRecursion, Ordering.nat_cmp, FinMap.{find, is_sorted, nat_cmp-IsAntisymmetric}, FinMap.Entries.same_entries}
+use Rattle.std.proofs.Common.{◌≡◌, ℕ, zero, suc, reverse, List, [], ◌∷◌, map, length, slice_get, slice_index_or, Some, inl, inr, refl, sym, ap, ◌∙◌, subst, arith, T}
+use Rattle.std.specs.{Prelude.zip, List.AllByRecursion, Ordering.nat_cmp, FinMap.{nat_cmp-IsAntisymmetric}, FinMap.Entries.same_entries}
 use Rattle.std.proofs.lemmas.{Cmp.nat_cmp_total, Bool.cases_lt, List.{length-map, map-id}}
-use Rattle.mm_word.specs.declared.word.Cell.{Cell}
-use Rattle.mm_model.specs.{declared.event.Event.Event, Slot.Slot, Memory.{Memory, page_at, zero_cell}, Image.Image, State.{ThreadRow, Core, State}}
+use Rattle.mm_model.specs.{Slot.Slot, Memory.{Memory, page_at}, Image.Image, State.{ThreadRow, Core, State}}
 use Rattle.mm_model.specs.{Fits.{slots_of, identity_of}, Spelling.IsImage}
-use Rattle.mm_pairs.specs.{Named.{HaveOneName, IsNameOf}, Trees.IsTree}
+use Rattle.mm_pairs.specs.{Named.{IsNameOf}, Trees.IsTree}
 use Rattle.mm_config.specs.declared.{store.Store.Store, names.Names.Names}
-use Rattle.mm_config.specs.{Configurations.{uncounted_slot, uncounted_row, uncounted, configuration}, Forms.{slot_form, queue_form}, Places.page_place, States.IsStateOf}
-use Rattle.mm_config.specs.Naming.{IsSlotName, IsQueueName, IsOutputName, IsPageName, IsOrNone, leaf_at, page_name, AreNamesOf, AreMemoryNames, IsKeptOnce, NamesAreOfOne}
+use Rattle.mm_config.specs.{Configurations.{uncounted_slot, uncounted_row, uncounted, configuration}, Forms.{slot_form, queue_form}, States.IsStateOf}
+use Rattle.mm_config.specs.Naming.{IsSlotName, IsQueueName, IsOutputName, IsPageName, IsOrNone, leaf_at, page_name, AreNamesOf, IsKeptOnce, NamesAreOfOne}
 use Rattle.mm_config.proofs.{SlotForms.form_tells, EventForms.{IsKeptEvent, queue_tells}, Keepables.{IsKeepablePair, slots_kept, queues_kept}}
 use Rattle.mm_config.proofs.NamedOnce.{all_got, maps_same, one_name, leaf_is, leaves_one, trees_same, outputs_tell, one_chain, pages_tell, one_page, heights_same}
 

@@ -1,11 +1,11 @@
 -- What one note leaves: of a slot, of a queue, and of an output.
-use Rattle.std.proofs.Common.{◌≡◌, ◌⊎◌, inl, inr, Bool, true, false, nat_eq, eq-eqb, Vec, Global, ℕ, zero, suc, ◌+◌, ◌-◌, ◌*◌, ◌/◌, ◌<◌, ◌≤◌, ◌^◌, bit_and, List, [], ◌∷◌, ◌++◌, map, length, reverse, slice_get, slice_set, slice_index_or, Option, Some, None, refl, sym, ap, ◌∙◌, subst, arith}
+use Rattle.std.proofs.Common.{◌≡◌, ◌⊎◌, inl, inr, false, nat_eq, eq-eqb, Vec, Global, ℕ, zero, suc, ◌+◌, ◌-◌, ◌*◌, ◌/◌, ◌<◌, ◌≤◌, ◌^◌, bit_and, List, [], ◌∷◌, ◌++◌, map, length, reverse, slice_get, slice_set, slice_index_or, Option, Some, None, refl, sym, ap, ◌∙◌, subst, arith}
 use Rattle.std.proofs.Common.{length-append, get_or-set_same, get_or-set_other}
 use Rattle.std.proofs.Math.Seq.{take-length}
 use Rattle.std.proofs.lemmas.Nat.{pow_pos, Bits.{and_pow, shr_and_one, bit_at-lt}}
 use Rattle.std.specs.{Int.{IsBitSet, bit_at}, Option.option_eq}
-use Rattle.std.proofs.lemmas.{Bool.cases_eq, List.{reverse-append, get_or_default, get_or-append_right}, Option.{get_or_from_slice_get, slice_get_within}}
-use Rattle.mm_model.specs.{declared.event.Event.Event, Slot.Slot, State.{Core, slot_at, queue_at, output_of}, Fits.{slots_of, identity_of, IsCore}}
+use Rattle.std.proofs.lemmas.{Bool.cases_eq, List.{reverse-append, get_or_default, get_or-append_right}, Option.{get_or_from_slice_get}}
+use Rattle.mm_model.specs.{declared.event.Event.Event, Slot.Slot, State.{slot_at, queue_at, output_of}, Fits.{slots_of, identity_of, IsCore}}
 use Rattle.mm_pairs.specs.{Named.{HasGrown, IsNameOf}, Trees.{leaves, IsTree, HasLeaves}}
 use Rattle.mm_pairs.proofs.Names.{length_leaves, tree_stays}
 use Rattle.mm_thread.specs.SlotIndices.{no_slot, slot_in, queue_in}

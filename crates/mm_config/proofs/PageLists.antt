@@ -1,5 +1,5 @@
 -- Ascending lists of pages: one after the other, with one more, and with one less.
-use Rattle.std.proofs.Common.{◌≡◌, ◌≢◌, ◌⊎◌, inl, inr, ℕ, zero, suc, ◌+◌, ◌<◌, ◌≤◌, Bool, true, false, not, cond, ◌&&◌, nat_eq, List, [], ◌∷◌, ◌++◌, map, take, drop, length, insert, remove, slice_get, slice_index_or, Option, Some, None, is_some}
+use Rattle.std.proofs.Common.{◌≡◌, ◌≢◌, inl, inr, ℕ, zero, suc, ◌+◌, ◌<◌, ◌≤◌, Bool, true, false, not, cond, ◌&&◌, nat_eq, List, [], ◌∷◌, map, take, drop, length, insert, remove, slice_get, slice_index_or, Some, None, is_some}
 use Rattle.std.proofs.Common.{refl, sym, ap, ◌∙◌, subst, arith, T, eq-eqb, eqb-true}
 use Rattle.std.proofs.lemmas.{Bool.{ne_eqb, cases_eq, cases_order, Decides.nat_tests}, Cmp.nat_cmp_total, List.{drop_all, length-map, Sums.{common_prefix_len-drop_yes, common_prefix_len-drop_no}}, Option.{get_or_from_slice_get, slice_get_within}}
 use Rattle.std.specs.{Prelude.◌==◌, List.{filter, common_prefix_len}, Cmp.unsigned_tied}

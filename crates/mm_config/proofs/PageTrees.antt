@@ -1,12 +1,12 @@
 -- Trees of pages, made deeper and lower, and with another page.
-use Rattle.std.proofs.Common.{◌≡◌, inl, inr, ℕ, zero, suc, ◌+◌, ◌-◌, ◌/◌, ◌%◌, ◌*◌, ◌^◌, ◌<◌, ◌≤◌, List, [], ◌∷◌, length, slice_index_or, slice_set, Bool, true, false, nat_eq, if◌then◌else◌}
+use Rattle.std.proofs.Common.{◌≡◌, inl, inr, ℕ, zero, suc, ◌-◌, ◌/◌, ◌*◌, ◌^◌, ◌<◌, ◌≤◌, List, length, slice_index_or, slice_set, Bool, true, false, nat_eq, if◌then◌else◌}
 use Rattle.std.proofs.Common.{refl, sym, ap, ◌∙◌, subst, arith, get_or-set_same, get_or-set_other, eqb-true, eq-eqb}
 use Rattle.std.proofs.lemmas.{Bool.cases_lt, List.get_or_past, Nat.{pow_pos, shr_split}}
 use Rattle.std.proofs.Math.{Nat.div-eq_of_lt, Pow.pow_mono, Seq.take-length}
 use Rattle.mm_pairs.specs.{Named.{HasGrown, IsNameOf}, Trees.{pair_of, leaves, IsTree, HasLeaves}}
 use Rattle.mm_pairs.proofs.Names.{no_shorter, grown_twice, tree_stays, leaves_stay, length_leaves, leaf_left, leaf_right}
 use Rattle.mm_config.specs.declared.{store.Store.Store, names.Names.Names}
-use Rattle.mm_config.specs.{Naming.{leaf_at, page_name, IsLow, IsTreeOfPages}, Noting.{IsKeptStill, IsSameTree, HasOtherPages, PutsPage}, Places.page_place}
+use Rattle.mm_config.specs.{Naming.{leaf_at, page_name, IsLow, IsTreeOfPages}, Noting.{IsSameTree, PutsPage}, Places.page_place}
 use Rattle.mm_config.proofs.Placing.{place_tells, place_stays}
 
 -- 1. Leaves.

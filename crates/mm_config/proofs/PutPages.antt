@@ -1,15 +1,15 @@
 -- Pages that are put, change by change.
-use Rattle.std.proofs.Common.{◌≡◌, ◌≢◌, ◌⊎◌, inl, inr, ℕ, zero, suc, ◌+◌, ◌<◌, ◌≤◌, ◌^◌, Bool, true, false, not, ◌&&◌, nat_lt, List, [], ◌∷◌, length, slice_get, slice_index_or, slice_set, Option, Some, None, is_some}
+use Rattle.std.proofs.Common.{◌≡◌, ◌≢◌, ◌⊎◌, inl, inr, ℕ, ◌+◌, ◌<◌, ◌≤◌, ◌^◌, true, not, ◌&&◌, nat_lt, List, [], ◌∷◌, length, slice_get, slice_index_or, slice_set, Option, Some, None, is_some}
 use Rattle.std.proofs.Common.{refl, sym, ap, ◌∙◌, subst, arith, T}
 use Rattle.std.proofs.lemmas.{Bool.{cases_eq, cases_lt, lt-ltb}, Cmp.nat_cmp_total, List.{get_or-set_same, get_or-set_other, get_or_past}, Option.slice_get_within}
-use Rattle.std.specs.{Ordering.nat_cmp, List.AllByRecursion, FinMap.{find, is_sorted, nat_cmp-IsAntisymmetric}, FinMap.Entries.same_entries}
+use Rattle.std.specs.{Ordering.nat_cmp, List.AllByRecursion, FinMap.{find, nat_cmp-IsAntisymmetric}, FinMap.Entries.same_entries}
 use Rattle.mm_word.specs.declared.word.Cell.{Cell}
-use Rattle.mm_model.specs.Memory.{Memory, page_at, is_mapped, can_map, IsPage, IsPaged}
+use Rattle.mm_model.specs.Memory.{Memory, page_at, can_map, IsPage, IsPaged}
 use Rattle.mm_mem.specs.Plain.{Plain}
-use Rattle.mm_pairs.{specs.{Named.{HasGrown, IsNameOf}, Trees.{changed, leaves}}, proofs.Names.{length_leaves, grown_twice, tree_stays}}
+use Rattle.mm_pairs.{specs.{Named.{HasGrown}, Trees.{changed, leaves}}, proofs.Names.{length_leaves, grown_twice, tree_stays}}
 use Rattle.std.proofs.Math.Seq.{take-length}
 use Rattle.mm_config.specs.declared.{store.Store.Store, names.Names.Names, put_memory.Changes.Changes}
-use Rattle.mm_config.specs.{Naming.{AreMemoryNames, IsPageName, IsOrNone, leaf_at, page_name}, Noting.{HasMoreCells, IsSameTree}, Places.{page_place, HaveOnePlace}, Putting.{IsOnWay, HasPages, HasPut, CanPut, IsPutSoFar, old_pages, new_pages}}
+use Rattle.mm_config.specs.{Naming.{AreMemoryNames, IsPageName, IsOrNone, leaf_at, page_name}, Noting.{HasMoreCells, IsSameTree}, Places.{page_place, HaveOnePlace}, Putting.{HasPages, HasPut, CanPut, IsPutSoFar, old_pages, new_pages}}
 use Rattle.mm_config.proofs.{NamedOnce.{pages_tell, not_none}, PageLists.{fewer_by_one, find_later}, Placing.place_tells, Noted.{or_none, still_more, memory_more}, PageCells.more_pairs, PageTrees.leaf_stays}
 use Rattle.mm_config.proofs.Walks.{change_is, change_at, begins, made, same_way, arrived, up_to}
 

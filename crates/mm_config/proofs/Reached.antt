@@ -2,7 +2,7 @@
 use Rattle.std.proofs.Common.{◌≡◌, ℕ, zero, suc, ◌+◌, ◌<◌, ◌≤◌, ◌^◌, List, [], ◌∷◌, map, length, slice_index_or, refl, sym, ap, ◌∙◌, subst, arith}
 use Rattle.std.proofs.{lemmas.List.{get_or-map, length-map}, Math.Pow.pow_mono}
 use Rattle.std.specs.Prelude.{zip}
-use Rattle.mm_model.specs.{Slot.Slot, Image.Image, State.{ThreadRow, Core, State}, Fits.{slots_of, identity_of, IsCore}, Spelling.IsImage}
+use Rattle.mm_model.specs.{Slot.Slot, Image.Image, State.{ThreadRow, State}, Fits.{slots_of, identity_of, IsCore}, Spelling.IsImage}
 use Rattle.mm_model.proofs.Fitted.{core_of}
 use Rattle.mm_thread.specs.SlotIndices.{no_slot, no_row, slot_in}
 use Rattle.mm_thread.proofs.{Revised.slots_many, RowIndex.{few_rows, small_numbers}}

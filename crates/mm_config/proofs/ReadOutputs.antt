@@ -1,7 +1,7 @@
 -- Reading the outputs whose names differ.
-use Rattle.std.proofs.Common.{◌≡◌, ◌⊎◌, inl, inr, ℕ, ◌+◌, ◌<◌, ◌≤◌, ◌^◌, List, [], ◌∷◌, ◌++◌, map, length, take, slice_get, slice_index_or, Some, refl, sym, ap, ◌∙◌, subst, arith}
+use Rattle.std.proofs.Common.{◌≡◌, ◌⊎◌, inl, inr, ℕ, ◌<◌, ◌≤◌, List, [], ◌++◌, length, take, slice_get, slice_index_or, Some, sym, ap, ◌∙◌, subst, arith}
 use Rattle.std.specs.List.{AllByRecursion, AllZip}
-use Rattle.mm_model.specs.State.{Core, State, output_of}
+use Rattle.mm_model.specs.State.{Core, output_of}
 use Rattle.mm_model.proofs.CoreRows.{each_get}
 use Rattle.mm_thread.specs.Revisions.{Extension, outputs_in}
 use Rattle.mm_pairs.specs.Trees.{leaves, changed}

@@ -1,5 +1,5 @@
 -- Reading the slots whose names differ.
-use Rattle.std.proofs.Common.{◌≡◌, ◌⊎◌, inl, inr, ℕ, zero, suc, ◌+◌, ◌<◌, ◌≤◌, Bool, true, false, List, [], ◌∷◌, map, length, slice_get, slice_set, slice_index_or, take, if◌then◌else◌, Some, refl, sym, ap, ◌∙◌, subst, arith}
+use Rattle.std.proofs.Common.{◌≡◌, inl, inr, ℕ, zero, suc, ◌+◌, ◌<◌, ◌≤◌, Bool, true, false, List, [], ◌∷◌, map, length, slice_get, slice_set, slice_index_or, take, if◌then◌else◌, Some, refl, sym, ap, ◌∙◌, subst, arith}
 use Rattle.std.proofs.lemmas.{List.{get_or-set_same, get_or-set_other, get_or-map, length-map, length-set, take_all, Sums.fold_more}, Option.{slice_get_within, get_or_from_slice_get}}
 use Rattle.std.specs.List.{AllByRecursion}
 use Rattle.std.specs.Prelude.{zip}

@@ -1,11 +1,11 @@
 -- A machine at its start, of which all is noted.
-use Rattle.std.proofs.Common.{◌≡◌, ◌⊎◌, inl, inr, Vec, Global, ℕ, ◌+◌, ◌<◌, ◌≤◌, ◌^◌, Bool, List, [], ◌∷◌, ◌++◌, map, length, replicate, slice_get, slice_index_or, Option, Some, None, refl, sym, ap, ◌∙◌, subst, arith}
+use Rattle.std.proofs.Common.{◌≡◌, ◌⊎◌, inl, inr, Vec, Global, ℕ, ◌<◌, ◌≤◌, ◌^◌, Bool, List, [], ◌∷◌, map, length, replicate, slice_get, slice_index_or, Option, Some, refl, sym, ap, ◌∙◌, subst, arith}
 use Rattle.std.proofs.Math.Seq.{take-length}
 use Rattle.std.proofs.lemmas.{Bool.cases_lt, List.{length-map, length-replicate, get_or-map}, Option.{slice_get-get_or, slice_get_past}}
-use Rattle.std.specs.{Prelude.zip, List.{AllByRecursion, AllZip, Sorted.IsStrictlyIncreasing}, Ordering.nat_cmp, FinMap.find}
+use Rattle.std.specs.{Prelude.zip, List.{AllByRecursion, AllZip}, Ordering.nat_cmp, FinMap.find}
 use Rattle.mm_word.specs.declared.word.Cell.{Cell}
-use Rattle.mm_model.specs.{Slot.Slot, Memory.{Memory, page_at}, Image.{Image, slot_limit, start}, State.{ThreadRow, Core, State}}
-use Rattle.mm_model.specs.{Spelling.{numbers_of, IsFresh, IsImage}, Fits.{slots_of, identity_of, IsCore, IsOfVersion}}
+use Rattle.mm_model.specs.{Slot.Slot, Image.{Image, slot_limit, start}, State.{ThreadRow, Core, State}}
+use Rattle.mm_model.specs.{Spelling.{IsFresh, IsImage}, Fits.{slots_of, identity_of, IsCore, IsOfVersion}}
 use Rattle.mm_model.proofs.{CoreRows.{each_map, slot_limit-few}, Fitted.core_of, Starts.{start_slots, nothing_out}}
 use Rattle.mm_pairs.specs.Trees.{IsTree}
 use Rattle.mm_thread.specs.SlotIndices.{no_slot, no_row, row_alone, slot_in}
@@ -13,7 +13,7 @@ use Rattle.mm_thread.proofs.Fresh.{each_nothing}
 use Rattle.mm_config.specs.declared.configs.Configs as code
 use Rattle.mm_config.specs.declared.configs.Looked.{Looked, TheVariants.{Known, New, Full}}
 use Rattle.mm_config.specs.declared.{store.Store.Store, names.Names.Names}
-use Rattle.mm_config.specs.{Configurations.{uncounted_row, uncounted, configuration}, Machines.{Configs, Keeps}, Places.page_place, States.IsStateOf}
+use Rattle.mm_config.specs.{Configurations.{uncounted_row, uncounted, configuration}, Machines.{Configs, Keeps}, Places.page_place}
 use Rattle.mm_config.specs.Naming.{AreNamesOf, AreMemoryNames, AreLeaves, IsOrNone, IsRest, IsSlotName, IsQueueName, IsOutputName, leaf_at}
 use Rattle.mm_config.specs.{Noting.{IsKeptStill, HasOtherPages, mapped_pages}, Keeping.{Stands, IsConfigurationOf, IsKeyOf}, Turning.{HasStarted, HasTrees, IsSlotNamed, NotesSlots}}
 use Rattle.mm_config.proofs.{NextState.bare_config, NotedTurn.{zip_get, zip_long, slots_at, slots_long}, States.start_state_of, StartNames.zero_leaves, Noted.{twice, alike}, PageTrees.{none_tree, none_at}}

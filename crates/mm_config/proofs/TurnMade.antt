@@ -1,7 +1,7 @@
 -- A machine that makes a turn.
-use Rattle.std.proofs.Common.{◌≡◌, ℕ, ◌<◌, ◌^◌, List, length, map, refl, sym, ap, ◌∙◌, subst, arith}
+use Rattle.std.proofs.Common.{◌≡◌, ℕ, ◌<◌, ◌^◌, refl, sym, ap, ◌∙◌, subst, arith}
 use Rattle.std.specs.List.{AllByRecursion}
-use Rattle.mm_model.specs.{declared.step.Step.Step, Slot.Slot, Memory.Memory, Image.Image, State.{Core, State}, Turn.{Turned, turn}, Run.turn_of, Fits.slots_of}
+use Rattle.mm_model.specs.{declared.step.Step.Step, Slot.Slot, Image.Image, State.{Core}, Turn.{Turned, turn}, Run.turn_of, Fits.slots_of}
 use Rattle.mm_model.proofs.CoreRows.{each_map}
 use Rattle.mm_mem.specs.Plain.{Plain}
 use Rattle.mm_config.specs.declared.configs.Configs as code

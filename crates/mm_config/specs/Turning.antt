@@ -6,7 +6,7 @@ use Rattle.mm_model.specs.declared.{slot.SlotState.TheVariants.Running, step.{St
 use Rattle.mm_word.specs.Access.{AccessValue}
 use Rattle.mm_word.specs.declared.word.Cell.{Cell}
 use Rattle.mm_model.specs.Counted.{writes}
-use Rattle.mm_model.specs.{Image.{Image, start}, Spelling.IsImage, Memory.{Memory, IsPaged, put_cell}, Slot.Slot, State.{Core, slot_at, output_of}, Run.turn_of, Fits.{slots_of, identity_of}}
+use Rattle.mm_model.specs.{Image.{Image, start}, Spelling.IsImage, Memory.{Memory, IsPaged, put_cell}, Slot.Slot, State.{slot_at, output_of}, Run.turn_of, Fits.{slots_of, identity_of}}
 use Rattle.mm_laws.specs.Frames.{MemoryLeft}
 use Rattle.mm_thread.specs.SlotIndices.{no_slot, slot_in, queue_in}
 use Rattle.mm_pairs.specs.Trees.{IsTree}

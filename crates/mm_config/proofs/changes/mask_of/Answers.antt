@@ -1,4 +1,4 @@
-use Rattle.std.proofs.Common.{◌≡◌, ◌<◌, ◌^◌, ℕ, bit_or, length, slice_index_or, sym, ap, ◌∙◌, arith}
+use Rattle.std.proofs.Common.{◌<◌, ◌^◌, ℕ, bit_or, slice_index_or, sym, ap, ◌∙◌, arith}
 use Rattle.std.proofs.lemmas.{List.{Sums.fold_more, take_all}, Nat.one_shl}
 use Rattle.mm_model.proofs.CoreRows.{each_get}
 use Rattle.mm_config.specs.Reads.{mask_of}

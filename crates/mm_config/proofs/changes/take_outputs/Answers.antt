@@ -1,9 +1,8 @@
-use Rattle.std.proofs.Common.{◌≡◌, ◌<◌, ◌≤◌, ◌++◌, ◌∷◌, [], ℕ, List, map, take, length, slice_index_or, sym, ap, ◌∙◌, subst, arith}
+use Rattle.std.proofs.Common.{◌++◌, ◌∷◌, [], ℕ, map, take, slice_index_or, sym, ap, ◌∙◌, subst}
 use Rattle.std.proofs.lemmas.List.{take_more, take_all, map-append}
 use Rattle.std.specs.List.{AllZip}
-use Rattle.mm_model.proofs.CoreRows.{each_get}
 use Rattle.mm_thread.specs.Revisions.{Extension, extension}
-use Rattle.mm_config.specs.Reads.{IsOutputChange, IsOutputRead}
+use Rattle.mm_config.specs.Reads.{IsOutputRead}
 use Rattle.mm_config.proofs.Zips.{zip_more}
 use Rattle.mm_config.proofs.changes.take_outputs.Goals as goal
 

@@ -1,4 +1,4 @@
-use Rattle.std.proofs.Common.{◌≡◌, ◌<◌, ◌≤◌, ℕ, List, [], length, slice_set, slice_index_or, sym, ap, ◌∙◌, arith}
+use Rattle.std.proofs.Common.{◌≡◌, ◌<◌, ◌≤◌, ℕ, List, [], length, slice_set, slice_index_or, sym, ap, ◌∙◌}
 use Rattle.std.proofs.lemmas.List.{Sums.fold_more, take_all, length-set, get_or_default}
 use Rattle.mm_model.{specs.Slot.Slot, proofs.CoreRows.each_get}
 use Rattle.mm_thread.specs.SlotIndices.{no_slot}

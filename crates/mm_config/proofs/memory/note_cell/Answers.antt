@@ -1,4 +1,4 @@
-use Rattle.std.proofs.Common.{◌≡◌, ◌/◌, ◌%◌, Some, None, refl, sym, ap, ◌∙◌, subst, slice_set}
+use Rattle.std.proofs.Common.{◌≡◌, None, refl, sym, ◌∙◌, subst, slice_set}
 use Rattle.std.proofs.lemmas.Result.{on_ok_weaker}
 use Rattle.mm_model.specs.Memory.{cell_at, page_of, place_of}
 use Rattle.mm_pairs.{specs.Trees.{leaves, IsTree, HasLeaves}, proofs.Names.grown_twice}

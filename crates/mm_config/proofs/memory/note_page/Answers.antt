@@ -1,7 +1,7 @@
-use Rattle.std.proofs.Common.{◌≡◌, ◌<◌, ◌≤◌, refl, sym, ap, ◌∙◌, insert, length, nat_eq, arith}
+use Rattle.std.proofs.Common.{◌≡◌, ap, ◌∙◌, insert, length, nat_eq, arith}
 use Rattle.std.proofs.lemmas.{List.Sums.common_prefix_len-le, Option.get_or_from_slice_get, Result.on_ok_weaker}
 use Rattle.mm_config.specs.{declared.store.Store.Store, Noting.mapped_pages}
-use Rattle.mm_config.proofs.{Noted.{CameAt, WentAt, came_at, went_at, come_noted, gone_noted, tree_more}, PageCells.more_pairs}
+use Rattle.mm_config.proofs.{Noted.{CameAt, came_at, went_at, come_noted, gone_noted, tree_more}, PageCells.more_pairs}
 use Rattle.mm_config.proofs.memory.note_page.Goals as goal
 
 come : (c : goal.Then-pages-len) → CameAt c.requires.known.0 c.args.mem.now.memory c.args.mapped.now.items c.first_other-at.result

@@ -1,7 +1,7 @@
-use Rattle.std.proofs.Common.{◌≡◌, suc, ◌-◌, ◌+◌, ◌<◌, ◌≤◌, ◌^◌, ◌++◌, sym, ap, ◌∙◌, length, arith}
-use Rattle.std.proofs.{lemmas.{Nat.one_shl, List.take-append-drop, Result.{IfOk-weaker, on_ok_weaker}}, Math.Nat.pow-suc}
+use Rattle.std.proofs.Common.{◌≡◌, suc, ◌-◌, ◌^◌, ◌++◌, sym, ap, ◌∙◌, arith}
+use Rattle.std.proofs.{lemmas.{Nat.one_shl, List.take-append-drop, Result.{IfOk-weaker}}, Math.Nat.pow-suc}
 use Rattle.mm_pairs.specs.Named.{IsNameOf}
-use Rattle.mm_config.proofs.PageCells.{cells_joined, more_twice, more_pairs}
+use Rattle.mm_config.proofs.PageCells.{cells_joined}
 use Rattle.mm_config.proofs.pages.+name_cells.Goals as goal
 
 pub split_at-requires : goal.split_at-requires

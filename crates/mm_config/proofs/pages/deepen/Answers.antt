@@ -1,6 +1,6 @@
-use Rattle.std.proofs.Common.{◌≡◌, ◌+◌, ◌<◌, suc, arith}
+use Rattle.std.proofs.Common.{◌+◌, arith}
 use Rattle.mm_pairs.proofs.Names.{grown_twice}
-use Rattle.mm_config.proofs.PageTrees.{still_same, deeper, shallow, fits}
+use Rattle.mm_config.proofs.PageTrees.{deeper, shallow}
 use Rattle.mm_config.proofs.pages.deepen.Goals as goal
 
 pub loop-names-preserved : goal.loop-names-preserved

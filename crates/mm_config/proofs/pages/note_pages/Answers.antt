@@ -1,4 +1,4 @@
-use Rattle.std.proofs.{Common.{◌≡◌, ◌∙◌, ap, refl, sym, subst, length, T}, lemmas.Option.slice_get_read}
+use Rattle.std.proofs.{Common.{◌∙◌, ap, refl, sym, subst, length, T}, lemmas.Option.slice_get_read}
 use Rattle.mm_config.specs.{declared.{store.Store.Store, names.Names.Names}, Naming.AreCells, Noting.PutsPage}
 use Rattle.mm_config.proofs.{Noted.{page_noted, still_more, tree_more, twice}, PageCells.{more_twice, more_pairs}}
 use Rattle.mm_config.proofs.pages.note_pages.Goals as goal

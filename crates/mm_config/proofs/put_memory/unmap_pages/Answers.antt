@@ -1,4 +1,4 @@
-use Rattle.std.proofs.Common.{◌≡◌, ◌+◌, ◌<◌, ℕ, length, slice_get, slice_index_or, Some, None, sym, ap, subst, arith}
+use Rattle.std.proofs.Common.{◌≡◌, ◌+◌, ◌<◌, ℕ, slice_index_or, None, sym, subst, arith}
 use Rattle.std.proofs.lemmas.Option.{slice_get-get_or}
 use Rattle.mm_config.specs.Putting.{HasPut, IsPutSoFar}
 use Rattle.mm_config.proofs.{PutCells.unmapped_page, PutPages.{unmap_begins, unmap_skips, unmap_makes, unmap_ends, page_of_change}}

@@ -1,7 +1,6 @@
-use Rattle.std.proofs.Common.{◌≡◌, ◌<◌, ◌++◌, ℕ, List, [], length, slice_index_or, ap, ◌∙◌, sym, subst, arith}
+use Rattle.std.proofs.Common.{◌<◌, ◌++◌, ℕ, length, slice_index_or, ap, ◌∙◌, sym, subst, arith}
 use Rattle.std.specs.List.{AllByRecursion}
 use Rattle.mm_model.specs.{Flags.flags, Fits.slots_of}
-use Rattle.mm_pairs.specs.Trees.{leaves, changed, IsTree}
 use Rattle.mm_config.specs.{Machines.AreApart, Reads.mask_of}
 use Rattle.mm_config.proofs.{Standing.{has_kept, kept_long}, Reached.few_slots_of, ChangedLeaves.all_at, Differing.{key_changes, trees, inside, are_apart}}
 use Rattle.mm_config.proofs.configs.Configs.differing.Goals as goal

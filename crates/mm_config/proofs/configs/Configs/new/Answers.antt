@@ -1,10 +1,8 @@
-use Rattle.std.proofs.Common.{◌≡◌, ◌<◌, ◌≤◌, ◌^◌, ◌∙◌, ℕ, List, [], refl, sym, ap, subst, length, arith}
-use Rattle.std.specs.List.{AllByRecursion, Sorted.IsStrictlyIncreasing}
-use Rattle.mm_model.specs.{Slot.Slot, Memory.Memory, Image.start, Spelling.{numbers_of, IsFresh}}
+use Rattle.std.proofs.Common.{◌≡◌, ◌≤◌, ◌^◌, ◌∙◌, List, [], refl, ap, subst, length}
+use Rattle.mm_model.specs.{Slot.Slot, Image.start}
 use Rattle.mm_mem.specs.Plain.{Plain}
-use Rattle.mm_config.specs.declared.configs.Configs as code
 use Rattle.mm_config.specs.{Configurations.configuration, Turning.HasStarted}
-use Rattle.mm_config.proofs.Started.{fresh_slots, of_version, none_pending, nothing_put_out, core_made, begins, first_kept}
+use Rattle.mm_config.proofs.Started.{of_version, none_pending, nothing_put_out, core_made, begins, first_kept}
 use Rattle.mm_config.proofs.configs.Configs.new.Goals as goal
 use Rattle.mm_config.proofs.configs.Configs.new.Goals.{After-pages-2}
 

@@ -1,4 +1,4 @@
-use Rattle.std.proofs.Common.{◌≡◌, ◌+◌, ◌<◌, ◌≤◌, ◌/◌, ◌^◌, bit_and, ◌∙◌, sym, ap, subst, length, arith}
+use Rattle.std.proofs.Common.{◌≡◌, ◌+◌, ◌<◌, ◌/◌, ◌^◌, bit_and, ◌∙◌, sym, ap, subst, arith}
 use Rattle.mm_model.specs.Slot.{Slot}
 use Rattle.mm_config.specs.Turning.{NotesSlots}
 use Rattle.mm_config.proofs.OneNote.{IsServedBelow, trees_after_slots, bit_from, same_option, read_small, one_served, none_served, all_served}

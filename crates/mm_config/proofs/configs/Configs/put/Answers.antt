@@ -1,4 +1,4 @@
-use Rattle.std.proofs.Common.{◌≡◌, ◌<◌, ℕ, length, slice_index_or, ap, arith}
+use Rattle.std.proofs.Common.{◌<◌, length, slice_index_or, ap, arith}
 use Rattle.std.proofs.lemmas.{Option.slice_get-get_or, Result.on_ok_weaker}
 use Rattle.mm_config.proofs.Standing.{has_kept, kept_long}
 use Rattle.mm_config.proofs.configs.Configs.put.Goals as goal

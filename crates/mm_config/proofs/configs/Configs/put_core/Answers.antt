@@ -1,4 +1,4 @@
-use Rattle.std.proofs.Common.{◌≡◌, map, ap}
+use Rattle.std.proofs.Common.{map, ap}
 use Rattle.mm_model.specs.Fits.{identity_of}
 use Rattle.mm_config.proofs.Standing.{reaches_still, may_revise, has_put}
 use Rattle.mm_config.proofs.configs.Configs.put_core.Goals as goal

@@ -1,7 +1,6 @@
-use Rattle.std.proofs.Common.{◌≡◌, ℕ, refl, sym, ap, ◌∙◌, subst}
+use Rattle.std.proofs.Common.{ℕ, refl, sym, subst}
 use Rattle.mm_config.specs.declared.configs.Configs as code
-use Rattle.mm_config.specs.declared.names.Names.{Names}
-use Rattle.mm_config.specs.{Keeping.Stands, Reaching.HasPutCore}
+use Rattle.mm_config.specs.{Keeping.Stands}
 use Rattle.mm_config.proofs.Standing.{there_already, wanted_is, reaches_it, memory_before, memory_wanted, is_paged, same_frames, put_stands}
 use Rattle.mm_config.proofs.configs.Configs.put_names.Goals as goal
 

@@ -1,4 +1,4 @@
-use Rattle.std.proofs.Common.{◌≡◌, ◌++◌, ℕ, List, ap, ◌∙◌, sym, subst, refl, arith}
+use Rattle.std.proofs.Common.{◌++◌, ap, ◌∙◌, sym, subst, refl, arith}
 use Rattle.std.proofs.lemmas.Result.{on_ok_weaker}
 use Rattle.std.specs.List.{AllByRecursion, AllZip}
 use Rattle.mm_thread.specs.Revisions.{outputs_in}

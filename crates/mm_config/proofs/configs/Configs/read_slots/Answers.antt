@@ -1,4 +1,4 @@
-use Rattle.std.proofs.Common.{◌≡◌, ◌<◌, ◌≤◌, ◌++◌, ℕ, List, length, ap, ◌∙◌, sym, subst, refl, arith}
+use Rattle.std.proofs.Common.{◌<◌, ◌≤◌, ◌++◌, ℕ, List, length, ap, ◌∙◌, sym, subst, refl, arith}
 use Rattle.std.{specs.{List.AllByRecursion, Vec.with_items}, proofs.lemmas.List.with_items_is}
 use Rattle.mm_model.specs.Slot.{Slot}
 use Rattle.mm_config.specs.declared.configs.Configs as code

@@ -1,4 +1,4 @@
-use Rattle.std.proofs.Common.{◌<◌, ◌∙◌, ap, arith}
+use Rattle.std.proofs.Common.{◌∙◌, ap, arith}
 use Rattle.mm_model.specs.Turn.{Turned}
 use Rattle.mm_config.proofs.TurnMade.{few_turns, own_turn, has_turned}
 use Rattle.mm_config.proofs.configs.Configs.turn.Goals as goal

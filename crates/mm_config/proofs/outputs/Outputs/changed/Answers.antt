@@ -1,4 +1,4 @@
-use Rattle.std.proofs.Common.{◌≡◌, ◌-◌, ◌<◌, ◌≤◌, ◌++◌, List, take, sym, ap, ◌∙◌, subst, arith}
+use Rattle.std.proofs.Common.{◌++◌, take, sym, ap, ◌∙◌, subst, arith}
 use Rattle.mm_config.proofs.ChangedOutputs.{ChangesSoFar, changing_begins, changing_ends, both_within, one_shorter, one_longer}
 use Rattle.mm_config.proofs.outputs.Outputs.changed.Goals as goal
 
