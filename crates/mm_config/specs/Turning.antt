@@ -142,7 +142,7 @@ abbrev pub IsSameButWord : Option AccessValue → Memory → Memory → Type 0
 IsSameButWord touched m now =
     (now ≡ m) ⊎ ((a : AccessValue) × (c : Cell) × (touched ≡ Some a) × (writes a.kind ≡ true) × (now ≡ put_cell m a.addr c))
 
--- the page that came or went is noted, and no word that an access wrote
+-- a page that came or went is noted; a word that an access wrote is not yet
 pub record NotesPage (touched : Option AccessValue) (old new : code.Configs) : Type 0 where
   pub still : IsKeptStill old.store new.store
   pub memory : Memory
