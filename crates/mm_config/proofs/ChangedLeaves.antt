@@ -1,9 +1,10 @@
 -- The leaves in which one tree differs from another, what they are names of, and lists of what was read of them.
-use Rattle.std.proofs.Common.{◌≡◌, ◌⊎◌, inl, inr, ℕ, zero, suc, ◌+◌, ◌<◌, ◌≤◌, ◌^◌, List, [], ◌∷◌, ◌++◌, length, slice_get, slice_index_or, Option, Some, refl, sym, ap, ◌∙◌, subst, arith}
-use Rattle.std.proofs.lemmas.{Bool.{cases_eq, cases_lt}, Option.{slice_get-get_or, slice_get_past, slice_get_within}}
+use Rattle.std.proofs.Common.{◌≡◌, ◌⊎◌, inl, inr, ℕ, zero, suc, ◌+◌, ◌<◌, ◌≤◌, List, [], ◌∷◌, map, length, slice_get, slice_index_or, Some, refl, sym, ap, ◌∙◌, subst, arith}
+use Rattle.std.proofs.lemmas.{Bool.{cases_eq, cases_lt}, Option.{slice_get-get_or, slice_get_past}}
+use Rattle.std.specs.List.{AllByRecursion, AllZip}
 use Rattle.mm_pairs.{specs.Trees.{leaves, changed}, proofs.Names.length_leaves}
 use Rattle.mm_config.specs.{Naming.{AreLeaves, IsOrNone, leaf_at}, Reaching.IsListed}
-use Rattle.mm_config.proofs.Walks.{change_is, change_at, up_to}
+use Rattle.mm_config.proofs.Walks.{change_is, change_at}
 
 -- 1. Leaves.
 
@@ -42,42 +43,39 @@ module _ {A : Type 0} (Is : A → ℕ → Type 0) (d : A) (xs ys : List A) (pair
   left p lt = elim (cases_eq (leaf_at pairs depth n p) (leaf_at pairs depth m p)) [
     | inl same ↦ inr same
     | inr other ↦
-      let wide = hy.wide in
-      let all = length_leaves pairs depth m in
-      let at = change_at 0 (leaves pairs depth n) (leaves pairs depth m) long p (omega (arith, lt, wide, all)) other in
-      let first : 0 + p ≡ p = omega arith in
-      inl (at.0, at.1 ∙ ap (λ q. Some (q, leaf_at pairs depth m p)) first)
+        let wide = hy.wide in
+        let all = length_leaves pairs depth m in
+        let at = change_at 0 (leaves pairs depth n) (leaves pairs depth m) long p (omega (arith, lt, wide, all)) other in
+        let first : 0 + p ≡ p = omega arith in
+        inl (at.0, at.1 ∙ ap (λ q. Some (q, leaf_at pairs depth m p)) first)
   ]
 
--- 2. What was read of the first changes.
+-- 2. What was read of changes.
 
-abbrev pub AreListed : {B : Type 0} → (B → ℕ) → List (ℕ × ℕ) → ℕ → List B → Type 0
-AreListed of changes n xs = (j : ℕ) (e : ℕ × ℕ) → j < n → slice_get changes j ≡ Some e → IsListed of e.0 xs
+-- what holds of each, at its index, holds of all
+pub all_at : {A : Type 0} (P : A → Type 0) (xs : List A) → ((j : ℕ) (x : A) → slice_get xs j ≡ Some x → P x) → AllByRecursion P xs
+all_at P [] h = tt
+all_at P (x ∷ xs) h = (h 0 x refl, all_at P xs (λ j y got. h (suc j) y got))
 
-module _ {B : Type 0} (of : B → ℕ) where
-  listed_more : (k : ℕ) (xs ys : List B) → IsListed of k xs → IsListed of k (xs ++ ys)
-  listed_more k [] ys h = absurd h
-  listed_more k (x ∷ xs) ys (inl e) = inl e
-  listed_more k (x ∷ xs) ys (inr h) = inr (listed_more k xs ys h)
+pub all_map : {A B : Type 0} (f : A → B) (P : B → Type 0) (xs : List A) → AllByRecursion (λ x. P (f x)) xs → AllByRecursion P (map f xs)
+all_map f P [] h = tt
+all_map f P (x ∷ xs) h = (h.0, all_map f P xs h.1)
 
-  listed_last : (k : ℕ) (xs : List B) (x : B) → of x ≡ k → IsListed of k (xs ++ x ∷ [])
-  listed_last k [] x e = inl e
-  listed_last k (y ∷ xs) x e = inr (listed_last k xs x e)
+pub listed_map : {B : Type 0} (f : ℕ × ℕ → B) (of : B → ℕ) → ((e : ℕ × ℕ) → of (f e) ≡ e.0) → (xs : List (ℕ × ℕ)) (j : ℕ) (e : ℕ × ℕ) → slice_get xs j ≡ Some e → IsListed of e.0 (map f xs)
+listed_map f of same [] j e got = cc
+listed_map f of same (x ∷ xs) zero e got = let one : x ≡ e = cc in inl (same x ∙ ap (λ (y : ℕ × ℕ). y.0) one)
+listed_map f of same (x ∷ xs) (suc j) e got = inr (listed_map f of same xs j e got)
 
-  pub none_listed : (changes : List (ℕ × ℕ)) (xs : List B) → AreListed of changes 0 xs
-  none_listed changes xs = λ j e low got. absurd (omega (arith, low))
+module _ {B : Type 0} (of : B → ℕ) (R : ℕ × ℕ → B → Type 0) where
+  pub listed_zip : ((e : ℕ × ℕ) (x : B) → R e x → of x ≡ e.0) → (es : List (ℕ × ℕ)) (xs : List B) → AllZip R es xs → (j : ℕ) (e : ℕ × ℕ) → slice_get es j ≡ Some e → IsListed of e.0 xs
+  listed_zip same [] [] h j e got = cc
+  listed_zip same [] (x ∷ xs) h j e got = absurd h
+  listed_zip same (d ∷ es) [] h j e got = absurd h
+  listed_zip same (d ∷ es) (x ∷ xs) h zero e got = let one : d ≡ e = cc in inl (same d x h.0 ∙ ap (λ (y : ℕ × ℕ). y.0) one)
+  listed_zip same (d ∷ es) (x ∷ xs) h (suc j) e got = inr (listed_zip same es xs h.1 j e got)
 
-  pub one_listed : (changes : List (ℕ × ℕ)) (n : ℕ) (xs : List B) (x : B) (e : ℕ × ℕ) → AreListed of changes n xs → slice_get changes n ≡ Some e → of x ≡ e.0
-      → AreListed of changes (n + 1) (xs ++ x ∷ [])
-  one_listed changes n xs x e so got is = λ j f low got_f. elim (up_to j n low) [
-    | inl before ↦ listed_more f.0 xs (x ∷ []) (so j f before got_f)
-    | inr last ↦
-      let two : ◌≡◌ {A = Option (ℕ × ℕ)} (Some e) (Some f) = sym got ∙ ap (slice_get changes) (sym last) ∙ got_f in
-      let one : e ≡ f = cc in
-      listed_last f.0 xs x (is ∙ ap (λ (y : ℕ × ℕ). y.0) one)
-  ]
-
-  pub all_listed : (changes : List (ℕ × ℕ)) (n : ℕ) (xs : List B) (p name : ℕ) (Same : Type 0) → AreListed of changes n xs → length changes ≤ n
-      → ((j : ℕ) × (slice_get changes j ≡ Some (p, name))) ⊎ Same → IsListed of p xs ⊎ Same
-  all_listed changes n xs p name Same so end (inl h) = let within = slice_get_within changes h.0 (p, name) h.1 in inl (so h.0 (p, name) (omega (arith, within, end)) h.1)
-  all_listed changes n xs p name Same so end (inr same) = inr same
+  pub all_zip : (P : ℕ × ℕ → Type 0) (Q : B → Type 0) → ((e : ℕ × ℕ) (x : B) → P e → R e x → Q x) → (es : List (ℕ × ℕ)) (xs : List B) → AllByRecursion P es → AllZip R es xs → AllByRecursion Q xs
+  all_zip P Q f [] [] h k = tt
+  all_zip P Q f [] (x ∷ xs) h k = absurd k
+  all_zip P Q f (d ∷ es) [] h k = absurd k
+  all_zip P Q f (d ∷ es) (x ∷ xs) h k = (f d x h.0 k.0, all_zip P Q f es xs h.1 k.1)

@@ -1,13 +1,12 @@
 -- Queues, read again from their numbers.
-use Rattle.std.proofs.Common.{◌≡◌, ℕ, ◌+◌, ◌%◌, ◌<◌, ◌≤◌, if◌then◌else◌, List, [], ◌∷◌, ◌++◌, length, refl, sym, ap, ◌∙◌, arith, append_assoc}
-use Rattle.std.proofs.lemmas.List.{append-nil}
-use Rattle.std.specs.{Prelude.{unwrap_or, Option}, List.{AllByRecursion, flat_map}}
+use Rattle.std.proofs.Common.{◌≡◌, ℕ, ◌%◌, ◌<◌, ◌≤◌, if◌then◌else◌, List, [], ◌∷◌, ◌++◌, length, refl, sym, ap, ◌∙◌, arith, append_assoc}
+use Rattle.std.specs.{Prelude.{unwrap_or, Option}, List.{AllByRecursion}}
 use Rattle.mm_model.proofs.{Bytes.SpelledRecords.is_spelled}
 use Rattle.mm_model.specs.{declared.event.Event.Event, Fits.EventHoldsWords}
 use Rattle.mm_word.specs.declared.{cause.Cause.{Cause, TheVariants.NotPointer}, perm.Perm.TheVariants.Key, word.Word.Word}
 use Rattle.mm_word.specs.{Pointer.{Pointer, IsWellFormed, pointer_of, bits_of}, Cause.{number_of, cause_of}}
 use Rattle.mm_word.proofs.{Causes.cause_back, Packing.pointer_of-bits_of}
-use Rattle.mm_config.specs.Forms.{word_form, word_from, pointer_or_key, event_form, event_with, event_from, queue_form, queue_from}
+use Rattle.mm_config.specs.Forms.{word_form, word_from, pointer_or_key, event_form, event_from, queue_form, queue_from}
 use Rattle.mm_config.proofs.WordForms.{word_read}
 
 -- 1. A queue after the first event.

@@ -56,8 +56,8 @@ pub slots_kept : (i : Image) (s : State) → IsImage i → IsStateOf i s → All
 slots_kept i s img h =
     keepables (slot_limit i.version) i.slots i.slots (slots_of s.core) h.fits.same_slots img.fresh
     (each_both (λ (x : Slot). IsSlot x × SlotHoldsWords x) LoadsMatch IsHeld (λ x k m. record { slot = k.0; words = k.1; loads = m }) (slots_of s.core)
-      (each_both IsSlot SlotHoldsWords (λ (x : Slot). IsSlot x × SlotHoldsWords x) (λ x a b. (a, b)) (slots_of s.core) h.state.core.slots (slots_words s.core.rows h.state.rows))
-      h.fits.matched.loads)
+    (each_both IsSlot SlotHoldsWords (λ (x : Slot). IsSlot x × SlotHoldsWords x) (λ x a b. (a, b)) (slots_of s.core) h.state.core.slots (slots_words s.core.rows h.state.rows))
+    h.fits.matched.loads)
 
 -- 2. Events.
 
@@ -96,6 +96,6 @@ unfolding queue_at
 queues_kept i s h =
     each_both (λ (row : ThreadRow). queue_of (row_in s.core.rows row.slot.number) ≡ row.queue) RowHoldsWords (λ (row : ThreadRow). AllByRecursion IsKeptEvent row.queue)
     (λ row found words.
-      each_both (λ (e : Event). e.slot < 64) EventHoldsWords IsKeptEvent (λ e low holds. record { slot = low; words = holds }) row.queue
-      (subst (AllByRecursion (λ (e : Event). e.slot < 64)) found (queue_small s.core h.state.core h.fits.matched row.slot.number)) words.events)
+    each_both (λ (e : Event). e.slot < 64) EventHoldsWords IsKeptEvent (λ e low holds. record { slot = low; words = holds }) row.queue
+    (subst (AllByRecursion (λ (e : Event). e.slot < 64)) found (queue_small s.core h.state.core h.fits.matched row.slot.number)) words.events)
     s.core.rows (queues_found s.core.rows h.state.core.rising) h.state.rows

@@ -1,9 +1,9 @@
 -- The keys of the configurations that were kept.
-use Rattle.std.proofs.Common.{◌≡◌, ℕ, ◌<◌, ◌≤◌, true, false, List, [], ◌∷◌, ◌++◌, length, slice_get, slice_index_or, Some, refl, sym, ap, ◌∙◌, subst, arith, length-append}
+use Rattle.std.proofs.Common.{◌≡◌, ℕ, ◌<◌, ◌≤◌, true, false, [], ◌∷◌, ◌++◌, length, slice_get, slice_index_or, Some, refl, sym, ap, ◌∙◌, subst, arith, length-append}
 use Rattle.std.proofs.lemmas.List.Folds.{list_any_at}
-use Rattle.std.specs.{Prelude.{Contains, ◌^◌}, List.{AllByRecursion, AllZip, list_any}}
+use Rattle.std.specs.{Prelude.{Contains, ◌^◌}, List.{AllZip, list_any}}
 use Rattle.mm_model.proofs.CoreRows.{each_push}
-use Rattle.mm_model.specs.{Image.Image, Slot.Slot, State.State, Spelling.IsImage}
+use Rattle.mm_model.specs.{Image.Image, State.State, Spelling.IsImage}
 use Rattle.mm_config.specs.declared.configs.Configs as code
 use Rattle.mm_config.specs.declared.{store.Store.Store, names.Names.Names}
 use Rattle.mm_config.specs.declared.configs.Looked.{TheVariants.{Known, New, Full}}

@@ -1,5 +1,5 @@
 -- Leaves that are noted.
-use Rattle.std.proofs.Common.{◌≡◌, ◌⊎◌, inl, inr, ℕ, ◌<◌, ◌≤◌, ◌^◌, List, length, slice_get, slice_index_or, Option, Some, sym, ap, ◌∙◌, subst, arith}
+use Rattle.std.proofs.Common.{◌≡◌, ◌⊎◌, inl, inr, ℕ, ◌<◌, ◌≤◌, ◌^◌, List, length, slice_get, slice_index_or, Option, Some, sym, ◌∙◌, subst, arith}
 use Rattle.std.proofs.lemmas.{Bool.{cases_eq, cases_lt}, Option.{slice_get-get_or, slice_get_past}}
 use Rattle.mm_pairs.specs.Trees.{IsTree}
 use Rattle.mm_config.specs.declared.configs.Configs as code

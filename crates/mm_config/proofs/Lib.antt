@@ -17,11 +17,11 @@ pub mod NextState
 pub mod OwnCells
 pub mod NotedRest
 pub mod NotedWhole
-pub mod ChangedLeaves
-pub mod Masked
 pub mod OneNote
 pub mod NotedMemory
 pub mod TurnMade
+pub mod ChangedLeaves
+pub mod Masked
 pub mod ReadSlots
 pub mod Differing
 pub mod ReadQueues

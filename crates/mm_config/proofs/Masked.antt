@@ -1,16 +1,18 @@
 -- The places of changes that are set in a mask, one after the other.
-use Rattle.std.proofs.Common.{◌≡◌, ◌≢◌, ◌⊎◌, inl, inr, ℕ, zero, suc, ◌+◌, ◌*◌, ◌%◌, ◌<◌, ◌≤◌, ◌^◌, Bool, true, false, List, length, slice_get, slice_set, slice_index_or, bit_or, Option, Some, refl, sym, ap, ◌∙◌, subst, arith, eqb}
-use Rattle.std.proofs.lemmas.{Bool.cases_eq, List.{get_or-set_same, get_or-set_other}, Nat.Bits.{bit_at_set_same, bit_at_set_other}}
+use Rattle.std.proofs.Common.{◌≡◌, ◌⊎◌, inl, inr, ℕ, zero, suc, ◌+◌, ◌*◌, ◌%◌, ◌<◌, ◌≤◌, ◌^◌, Bool, true, false, List, length, slice_get, slice_set, slice_index_or, take, bit_or, Option, Some, refl, sym, ap, ◌∙◌, subst, arith, eqb}
+use Rattle.std.proofs.lemmas.{Bool.cases_eq, List.{get_or-set_same, get_or-set_other}, Nat.{one_shl, Bits.{bit_at_set_same, bit_at_set_other}}, List.Sums.fold_more, List.take_all, Option.slice_get-get_or}
 use Rattle.std.specs.Int.{w64}
 use Rattle.mm_model.{specs.Flags.flags, proofs.Bytes.Bitmaps.length-flags}
 use Rattle.mm_thread.proofs.FlagSets.{flags-one}
+use Rattle.mm_config.specs.Reads.{mask_of}
 use Rattle.mm_config.proofs.Walks.{up_to}
 
 -- a flag that is set
-flags_set : (k n r : ℕ) → k ≤ 64 → r < k → flags k (bit_or n (1 * 2 ^ r % 2 ^ 64)) ≡ slice_set (flags k n) r true
+flags_set : (k n r : ℕ) → k ≤ 64 → r < k → flags k (bit_or n (2 ^ r)) ≡ slice_set (flags k n) r true
 flags_set k n r few lt =
-    flags-one k (bit_or n (1 * 2 ^ r % 2 ^ 64)) n r true lt (ap (λ c. eqb c 1) (bit_at_set_same w64 n r (omega (arith, few, lt)))) (λ i small other.
-    bit_at_set_other w64 n r (omega (arith, few, lt)) i other)
+    let low : r < 64 = omega (arith, few, lt) in
+    ap (λ b. flags k (bit_or n b)) (sym (one_shl r 64 low))
+    ∙ flags-one k (bit_or n (1 * 2 ^ r % 2 ^ 64)) n r true lt (ap (λ c. eqb c 1) (bit_at_set_same w64 n r low)) (λ i small other. bit_at_set_other w64 n r low i other)
 
 -- a place is set, and something holds of it, or it is not set, and none of the first changes is at it
 abbrev pub IsMasked : List (ℕ × ℕ) → (ℕ → Type 0) → ℕ → List Bool → ℕ → Type 0
@@ -29,11 +31,11 @@ pub none_masked : (changes : List (ℕ × ℕ)) (Is : ℕ → Type 0) (count : �
 none_masked changes Is count = λ p lt. inr (no_flag count p lt, λ j e low got same. absurd (omega (arith, low)))
 
 pub one_masked : (changes : List (ℕ × ℕ)) (Is Next : ℕ → Type 0) (count n mask : ℕ) (e : ℕ × ℕ) → count ≤ 64 → AreMasked changes Is count n mask → slice_get changes n ≡ Some e → e.0 < count
-    → ((p : ℕ) → (p ≡ e.0 → ⊥) → Is p → Next p) → Next e.0 → AreMasked changes Next count (n + 1) (bit_or mask (1 * 2 ^ e.0 % 2 ^ 64))
+    → ((p : ℕ) → (p ≡ e.0 → ⊥) → Is p → Next p) → Next e.0 → AreMasked changes Next count (n + 1) (bit_or mask (2 ^ e.0))
 one_masked changes Is Next count n mask e few so got lt others here = λ p low. by p (cases_eq p e.0) (so p low)
   where
     now : List Bool
-    now = flags count (bit_or mask (1 * 2 ^ e.0 % 2 ^ 64))
+    now = flags count (bit_or mask (2 ^ e.0))
 
     set : now ≡ slice_set (flags count mask) e.0 true
     set = flags_set count mask e.0 few lt
@@ -51,8 +53,35 @@ one_masked changes Is Next count n mask e few so got lt others here = λ p low. 
       λ j f low there at. elim (up_to j n low) [
         | inl before ↦ was.1 j f before there at
         | inr last ↦
-          let two : ◌≡◌ {A = Option (ℕ × ℕ)} (Some f) (Some e) = sym there ∙ ap (slice_get changes) last ∙ got in
-          let one : f ≡ e = cc in
-          ne (sym at ∙ ap (λ (x : ℕ × ℕ). x.0) one)
+            let two : ◌≡◌ {A = Option (ℕ × ℕ)} (Some f) (Some e) = sym there ∙ ap (slice_get changes) last ∙ got in
+            let one : f ≡ e = cc in
+            ne (sym at ∙ ap (λ (x : ℕ × ℕ). x.0) one)
       ],
     )
+
+-- what holds of each place of the first changes
+module _ (changes : List (ℕ × ℕ)) (Is : ℕ → ℕ → Type 0) (count : ℕ) (few : count ≤ 64) (inside : (j : ℕ) (e : ℕ × ℕ) → slice_get changes j ≡ Some e → e.0 < count)
+    (others : (n p : ℕ) (e : ℕ × ℕ) → slice_get changes n ≡ Some e → (p ≡ e.0 → ⊥) → Is n p → Is (n + 1) p) (here : (n : ℕ) (e : ℕ × ℕ) → slice_get changes n ≡ Some e → Is (n + 1) e.0) where
+  first_masked : (n : ℕ) → n ≤ length changes → AreMasked changes (Is n) count n (mask_of (take n changes))
+  first_masked zero low = none_masked changes (Is 0) count
+  first_masked (suc n) low =
+      let lt : n < length changes = omega (arith, low) in
+      let e : ℕ × ℕ = slice_index_or changes n (0, 0) in
+      let got = slice_get-get_or changes n (0, 0) lt in
+      let next : n + 1 ≡ suc n = omega arith in
+      let mask = fold_more (λ (m : ℕ) (x : ℕ × ℕ). bit_or m (2 ^ x.0)) 0 changes n (0, 0) lt in
+      let step = one_masked changes (Is n) (Is (n + 1)) count n (mask_of (take n changes)) e few (first_masked n (omega (arith, low))) got (inside n e got) (λ p ne is. others n p e got ne is) (here n e got) in
+      subst (λ k. AreMasked changes (Is k) count k (mask_of (take k changes))) next (subst (AreMasked changes (Is (n + 1)) count (n + 1)) (sym mask) step)
+
+  pub all_masked : AreMasked changes (Is (length changes)) count (length changes) (mask_of changes)
+  all_masked =
+      subst (λ l. AreMasked changes (Is (length changes)) count (length changes) (mask_of l)) (take_all (length changes) changes (omega arith)) (first_masked (length changes) (omega arith))
+
+-- one of the changes is at a place
+abbrev pub IsChanged : List (ℕ × ℕ) → ℕ → Type 0
+IsChanged changes p = (j : ℕ) × (e : ℕ × ℕ) × (slice_get changes j ≡ Some e) × (e.0 ≡ p)
+
+pub changed_masked : (changes : List (ℕ × ℕ)) (count : ℕ) → count ≤ 64 → ((j : ℕ) (e : ℕ × ℕ) → slice_get changes j ≡ Some e → e.0 < count)
+    → AreMasked changes (IsChanged changes) count (length changes) (mask_of changes)
+changed_masked changes count few inside =
+    all_masked changes (λ n p. IsChanged changes p) count few inside (λ n p e got ne is. is) (λ n e got. (n, e, got, refl))

@@ -8,7 +8,7 @@ use Rattle.mm_model.specs.Memory.{zero_cell}
 use Rattle.mm_pairs.specs.{Named.{named, HaveOneName, IsNameOf}, Trees.{pair_of, leaves, IsTree}}
 use Rattle.mm_pairs.proofs.Names.{trees_apart, length_leaves}
 use Rattle.mm_config.specs.declared.{store.Store.Store, names.Names.Names}
-use Rattle.mm_config.specs.Naming.{IsChain, IsOutputName, AreCells, IsPageName, IsOrNone, leaf_at, AreLeaves, IsLow, IsTreeOfPages, IsRest}
+use Rattle.mm_config.specs.Naming.{IsChain, IsOutputName, IsPageName, IsOrNone, leaf_at, AreLeaves, IsLow, IsRest}
 use Rattle.mm_config.proofs.PageTrees.{past, in_right, none_tree, none_at}
 
 -- 1. Elements.
@@ -150,16 +150,16 @@ module _ (pairs : List (ℕ × ℕ)) (once : HaveOneName (0, 0) pairs) where
   not_empty : (depth tree : ℕ) → IsTree pairs (suc depth) tree → IsLow pairs (suc depth) tree → ((at : ℕ) → 2 ^ depth ≤ at → leaf_at pairs (suc depth) tree at ≡ 0) → ⊥
   not_empty depth tree inner low none =
       low (trees_same pairs once depth (pair_of pairs tree).1 0 inner.2 (none_tree pairs depth) (λ at.
-        let far : 2 ^ depth ≤ at + 2 ^ depth = omega arith in
-        let back : at + 2 ^ depth - 2 ^ depth ≡ at = omega arith in
-        ap (leaf_at pairs depth (pair_of pairs tree).1) (sym back) ∙ in_right pairs depth tree (at + 2 ^ depth) far ∙ none (at + 2 ^ depth) far ∙ sym (none_at pairs depth at)))
+      let far : 2 ^ depth ≤ at + 2 ^ depth = omega arith in
+      let back : at + 2 ^ depth - 2 ^ depth ≡ at = omega arith in
+      ap (leaf_at pairs depth (pair_of pairs tree).1) (sym back) ∙ in_right pairs depth tree (at + 2 ^ depth) far ∙ none (at + 2 ^ depth) far ∙ sym (none_at pairs depth at)))
 
   not_deeper : (d e t u : ℕ) → d < e → IsTree pairs e u → IsLow pairs e u → ((at : ℕ) → leaf_at pairs d t at ≡ leaf_at pairs e u at) → ⊥
   not_deeper d zero t u lt inner low same = absurd (omega (arith, lt))
   not_deeper d (suc e) t u lt inner low same =
       not_empty e u inner low (λ at high.
-        let wide = pow_mono {i = d} {j = e} (omega (arith, lt)) in
-        sym (same at) ∙ past pairs d t at (omega (arith, high, wide)))
+      let wide = pow_mono {i = d} {j = e} (omega (arith, lt)) in
+      sym (same at) ∙ past pairs d t at (omega (arith, high, wide)))
 
   pub heights_same : (d e t u : ℕ) → IsTree pairs d t → IsTree pairs e u → IsLow pairs d t → IsLow pairs e u
       → ((at : ℕ) → leaf_at pairs d t at ≡ leaf_at pairs e u at) → d ≡ e

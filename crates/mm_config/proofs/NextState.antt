@@ -1,8 +1,7 @@
 -- The configuration that a turn leads to.
 use Rattle.std.proofs.Common.{◌≡◌, ℕ, ◌<◌, List, [], ◌∷◌, map, length, refl, sym, ap, ◌∙◌, subst}
-use Rattle.std.proofs.lemmas.List.{length-map}
 use Rattle.std.specs.List.{AllByRecursion}
-use Rattle.mm_model.specs.{Slot.Slot, Memory.Memory, Image.Image, State.{ThreadRow, Core, State, slot_at}, Run.{turn_of, after}}
+use Rattle.mm_model.specs.{Image.Image, State.{ThreadRow, State}, Run.{turn_of, after}}
 use Rattle.mm_model.specs.{Fits.{slots_of, identity_of, IsCore, RowHoldsWords}, Spelling.IsImage}
 use Rattle.mm_thread.specs.SlotIndices.{slot_in, with_slot}
 use Rattle.mm_thread.proofs.Sound.{turn_whole, uncounted_whole}

@@ -1,6 +1,6 @@
 -- The names of a memory with another cell, and with another page.
-use Rattle.std.proofs.Common.{◌≡◌, ◌≢◌, ◌⊎◌, inl, inr, ℕ, zero, suc, ◌+◌, ◌*◌, ◌/◌, ◌%◌, ◌^◌, ◌<◌, ◌≤◌, Bool, true, false, nat_eq, if◌then◌else◌, List, [], ◌∷◌, length, slice_get, slice_index_or, slice_set, Option, Some, None}
-use Rattle.std.proofs.Common.{refl, sym, ap, ◌∙◌, subst, arith, eqb-true, eq-eqb, is_some, take, insert, remove, T}
+use Rattle.std.proofs.Common.{◌≡◌, ◌≢◌, ◌⊎◌, inl, inr, ℕ, zero, suc, ◌+◌, ◌%◌, ◌<◌, ◌≤◌, Bool, true, false, nat_eq, if◌then◌else◌, List, [], ◌∷◌, length, slice_get, slice_index_or, slice_set, Option, Some, None}
+use Rattle.std.proofs.Common.{refl, sym, ap, ◌∙◌, subst, arith, eqb-true, eq-eqb, take, insert, remove, T}
 use Rattle.std.specs.{Ordering.nat_cmp, FinMap.is_sorted, List.AllZip, Prelude.{IsTrue, replicate}}
 use Rattle.std.proofs.Math.Seq.{take-length}
 use Rattle.mm_word.specs.declared.word.Cell.{Cell}
@@ -9,7 +9,7 @@ use Rattle.mm_model.proofs.Memories.{cell_at-aligned, put_cell-unmapped, page_at
 use Rattle.mm_pairs.specs.{Named.{HasGrown, IsNameOf}, Trees.{pair_of, leaves, IsTree, HasLeaves}}
 use Rattle.mm_pairs.proofs.Names.{named_stays, tree_stays, grown_twice, length_leaves}
 use Rattle.mm_config.specs.declared.{store.Store.Store, names.Names.Names}
-use Rattle.mm_config.specs.{Naming.{AreCells, IsPageName, IsOrNone, leaf_at, page_name, IsLow, IsTreeOfPages, AreMemoryNames}, Noting.{HasMoreCells, HasOtherPage, IsKeptStill, PutsPage, mapped_pages}}
+use Rattle.mm_config.specs.{Naming.{AreCells, IsPageName, IsOrNone, page_name, IsLow, IsTreeOfPages, AreMemoryNames}, Noting.{HasMoreCells, HasOtherPage, IsKeptStill, PutsPage, mapped_pages}}
 use Rattle.mm_config.proofs.{PageCells.{page_stays, cells_set, cells_stay, more_twice, more_pairs}, PageLists.{page_added, comes_in, goes_out, ComesIn, GoesOut, first_other}, NamedOnce.same_numbers, PageTrees.{leaf_stays, none_tree, none_at}}
 use Rattle.mm_config.specs.Places.{page_place}
 use Rattle.std.proofs.lemmas.{Bool.cases_eq, List.{length-map, length-replicate}, Option.slice_get_within}
@@ -117,9 +117,9 @@ module _ (m now : Memory) (word : ℕ) (c : Cell) (is : now ≡ put_cell m word 
       by None e = ap (λ (v : Memory). page_at v q) (is ∙ put_cell-unmapped m word c e)
       by (Some cells) e = elim (cases_eq q (page_of word)) [
         | inl same ↦
-          let set = here cells e in
-          let none = sym (ap (λ (o : Option (List Cell)). cell_in o (place_of word)) set) ∙ none_in in
-          ap (page_at now) same ∙ set ∙ ap Some (set_past cells (place_of word) c none) ∙ sym e ∙ ap (page_at m) (sym same)
+            let set = here cells e in
+            let none = sym (ap (λ (o : Option (List Cell)). cell_in o (place_of word)) set) ∙ none_in in
+            ap (page_at now) same ∙ set ∙ ap Some (set_past cells (place_of word) c none) ∙ sym e ∙ ap (page_at m) (sym same)
         | inr ne ↦ others q ne
       ]
 

@@ -1,11 +1,11 @@
 -- What noting the memory after a turn leaves.
-use Rattle.std.proofs.Common.{◌≡◌, ◌⊎◌, inl, inr, ℕ, zero, suc, ◌<◌, Bool, true, false, List, [], ◌∷◌, map, length, slice_set, Option, Some, None, is_some, refl, sym, ap, ◌∙◌, subst, arith, T}
+use Rattle.std.proofs.Common.{◌≡◌, inl, inr, ℕ, true, false, List, [], ◌∷◌, length, slice_set, Option, Some, None, is_some, refl, sym, ap, ◌∙◌, subst, arith, T}
 use Rattle.std.proofs.Math.Seq.{take-length}
 use Rattle.std.proofs.lemmas.List.{length-map}
 use Rattle.std.specs.{Ordering.{nat_cmp}, declared.cmp.Ordering.{Ordering, TheVariants.{Less, Equal, Greater}}}
-use Rattle.std.specs.{Prelude.{Result, Ok, Err, OnOk, IsTrue}, FinMap.{put, is_sorted, Entries.by_order}}
+use Rattle.std.specs.{Prelude.{Result, Ok, Err, OnOk}, FinMap.{put, Entries.by_order}}
 use Rattle.mm_word.specs.{declared.word.Cell.Cell, Access.AccessValue}
-use Rattle.mm_model.specs.{Counted.writes, Memory.{Memory, page_of, place_of, page_at, put_cell, put_in, is_mapped, can_map, map_page, unmap_page, ArePages, IsPaged}}
+use Rattle.mm_model.specs.{Counted.writes, Memory.{Memory, page_of, place_of, page_at, put_cell, put_in, can_map, ArePages, IsPaged}}
 use Rattle.mm_model.proofs.Memories.{put_count, can_map-facts}
 use Rattle.mm_laws.specs.Frames.{MemoryLeft}
 use Rattle.mm_config.specs.declared.configs.Configs as code
@@ -92,7 +92,14 @@ module _ (touched : Option AccessValue) (pages : ℕ) (c : code.Configs) (w : Wa
   pub page_is_noted : (store : Store) (names : Names) (new : code.Configs) → new ≡ record c { store = store; names = names; mapped = new.mapped } → IsPaged c.mem.memory
       → AreMemoryNames store c.mem.memory names → new.mapped.items ≡ mapped_pages c.mem.memory → IsKeptStill c.store store → HasOtherPages c.names names → NotesPage touched c new
   page_is_noted store names new is whole named mapped still others = subst (NotesPage touched c) (sym is) (record {
-    still = still; memory = c.mem.memory; left = inl refl; whole = whole; names = named; pages = others; mapped = mapped; others = refl;
+    still = still;
+    memory = c.mem.memory;
+    left = inl refl;
+    whole = whole;
+    names = named;
+    pages = others;
+    mapped = mapped;
+    others = refl;
   })
 
 -- 3. A word.

@@ -1,11 +1,8 @@
 -- Outputs and memory after a turn of which all was noted.
-use Rattle.std.proofs.Common.{◌≡◌, ◌⊎◌, inl, inr, ℕ, ◌<◌, ◌≤◌, ◌^◌, List, [], ◌∷◌, ◌++◌, length, slice_index_or, refl, sym, ap, ◌∙◌, subst, arith, length-append, get_or-append-add}
+use Rattle.std.proofs.Common.{◌≡◌, ◌⊎◌, inl, inr, ℕ, ◌<◌, ◌≤◌, ◌^◌, List, [], ◌∷◌, ◌++◌, length, slice_index_or, sym, ◌∙◌, subst, arith}
 use Rattle.std.proofs.lemmas.{Bool.cases_lt, Option.slice_get-get_or}
 use Rattle.std.specs.List.{AllByRecursion}
-use Rattle.mm_model.specs.{Memory.{Memory, IsPaged}, State.{Core, State, output_of}}
-use Rattle.mm_model.proofs.CoreRows.{each_get}
-use Rattle.mm_pairs.specs.Trees.{IsTree}
-use Rattle.mm_pairs.proofs.Names.{tree_stays}
+use Rattle.mm_model.specs.{Memory.{Memory}, State.{Core, output_of}}
 use Rattle.mm_config.specs.declared.{store.Store.Store, names.Names.Names}
 use Rattle.mm_config.specs.{Naming.{AreLeaves, AreMemoryNames, IsOrNone, IsOutputName, leaf_at}, Noting.IsKeptStill, Turning.NotesLeaves}
 use Rattle.mm_config.proofs.{Leaves.{settled, IsSettled}, PageTrees.past, Staying.output_stays}

@@ -1,20 +1,17 @@
 -- A machine that has made a turn, by what was noted.
-use Rattle.std.proofs.Common.{◌≡◌, ◌⊎◌, inl, inr, ℕ, zero, suc, ◌-◌, ◌<◌, ◌≤◌, ◌%◌, ◌&&◌, nat_le, Bool, true, false, List, [], ◌∷◌, map, length, slice_index_or, Option, Some, None, if◌then◌else◌, refl, sym, ap, ◌∙◌, subst, arith, leb-true}
+use Rattle.std.proofs.Common.{◌≡◌, ◌⊎◌, inl, inr, ℕ, zero, suc, ◌-◌, ◌<◌, ◌%◌, ◌&&◌, nat_le, Bool, true, false, List, [], ◌∷◌, length, slice_index_or, Option, Some, None, if◌then◌else◌, refl, sym, ap, ◌∙◌, subst, arith, leb-true}
 use Rattle.std.proofs.lemmas.List.{length-map, get_or-map}
-use Rattle.std.specs.{Prelude.zip, List.AllByRecursion}
+use Rattle.std.specs.{Prelude.zip}
 use Rattle.mm_model.specs.declared.slot.Pending.{Pending}
-use Rattle.mm_model.specs.{Slot.Slot, Memory.Memory, Image.Image, State.{ThreadRow, Core, State, slot_at}, Run.{turn_of, after}}
-use Rattle.mm_model.specs.{Ask.ask, Effect.{Effect, effect, Effect.{Fault, Block, Deliver, Do}}}
+use Rattle.mm_model.specs.{Slot.Slot, Memory.Memory, State.{ThreadRow, Core, slot_at}}
+use Rattle.mm_model.specs.{Ask.ask, Effect.{effect, Effect.{Fault, Block, Deliver, Do}}}
 use Rattle.mm_model.specs.Turn.{faulted, blocked, ended, executed, reply, touch_of, asked_use}
-use Rattle.mm_model.specs.{Fits.{slots_of, identity_of, IsCore}, Turn.{turn, taken_by, taken_by_port, started, arrives, idle, is_running}, Spelling.IsImage}
+use Rattle.mm_model.specs.{Fits.{slots_of}, Turn.{turn, taken_by, taken_by_port, started, arrives, idle, is_running}}
 use Rattle.mm_model.proofs.{CoreRows.slot_at-number, SlotSteps.delivered_from, TurnShapes.{started_one, fetch_use}}
-use Rattle.mm_thread.specs.SlotIndices.{no_slot, no_row, slot_in, queue_in, with_slot}
-use Rattle.mm_thread.proofs.Sound.{turn_whole}
-use Rattle.mm_laws.{specs.Frames.LeavesTheRest, proofs.Left.turn_leaves}
-use Rattle.mm_config.specs.declared.{configs.Configs.Configs, note.Before.Before, store.Store.Store}
-use Rattle.mm_config.specs.{Configurations.{uncounted_slot, uncounted_row, uncounted, configuration}, Keeping.IsConfigurationOf}
-use Rattle.mm_config.specs.{Naming.{IsSlotName, IsQueueName, AreLeaves, leaf_at}, Noting.IsKeptStill, Turning.{IsServedBy, NotesLeaves}}
-use Rattle.mm_config.proofs.{States.after_state_of, Standing.config_core, Leaves.{settled, IsSettled}, Staying.{slot_stays, queue_stays}}
+use Rattle.mm_thread.specs.SlotIndices.{no_slot, no_row, slot_in, queue_in}
+use Rattle.mm_config.specs.declared.{store.Store.Store}
+use Rattle.mm_config.specs.{Naming.{IsSlotName, IsQueueName, AreLeaves, leaf_at}, Noting.IsKeptStill, Turning.{NotesLeaves}}
+use Rattle.mm_config.proofs.{Leaves.{settled, IsSettled}, Staying.{slot_stays, queue_stays}}
 
 -- 1. The slot of a step.
 
@@ -31,7 +28,7 @@ module _ (core : Core) (m : Memory) (n : ℕ) (byte : n < 256) where
     carries_out = λ f instr aim is has.
         elim (effect core.split instr x (reply core m x.number (ask instr x)))
         as (λ y. (ended core m x instr f (touch_of (ask instr x)) (fetch_use f ∷ asked_use m (ask instr x)) y).step.slot ≡ x.number) [
-          Fault cause ↦ refl
+          | Fault cause ↦ refl
           | Block ↦ refl
           | Deliver o ↦ refl
           | Do d ↦ refl

@@ -11,7 +11,7 @@ use Rattle.mm_thread.specs.SlotIndices.{no_slot, no_row, slot_in, queue_in, with
 use Rattle.mm_thread.proofs.{Index.slot_found, Revised.slots_many, RowIndex.apart_in}
 use Rattle.mm_config.specs.declared.configs.Configs as code
 use Rattle.mm_config.specs.declared.{note.Before.Before, store.Store.Store, names.Names.Names}
-use Rattle.mm_config.specs.{Configurations.{uncounted_slot, uncounted_row, uncounted, configuration}, Machines.Configs, Forms.queue_form}
+use Rattle.mm_config.specs.{Configurations.{uncounted_slot, uncounted_row, uncounted, configuration}, Forms.queue_form}
 use Rattle.mm_config.specs.Naming.{AreNamesOf, AreMemoryNames, AreLeaves, IsOrNone, IsRest, IsSlotName, IsQueueName, IsOutputName, leaf_at}
 use Rattle.mm_laws.specs.Frames.{OutputLeft, MemoryLeft}
 use Rattle.mm_config.specs.{Noting.{IsKeptStill, mapped_pages}, Keeping.{Stands, IsConfigurationOf}, Turning.{HasTurned, HasTrees, WasOutput, WasMemory, NotesLeaves, NotesSlots, NotesQueues, NotesOutputs, NotesMemory, IsServedBy, IsFaultHandler}}
@@ -105,22 +105,22 @@ module _ (b : Before) (step : Step) (c : code.Configs) (t : HasTurned b step c) 
       let same = (frame i s t.item t.stands.image config).nobody before_none in
       subst (λ (x : State). Stands i (record t.at { machine = x }) c) (sym (nobody_turns s config.bare t.item (frame i s t.item t.stands.image config) before_none))
       (stands_at i t.at s t.was c t.stands
-        (ap (λ (x : code.Configs). x.base) t.others)
-        (ap (λ (x : code.Configs). map identity_of x.slots.items) t.others)
-        (ap (λ (x : code.Configs). x.depth) t.others)
-        (ap (λ (x : code.Configs). x.kept) t.others)
-        (subst (IsKeptStill t.was.store) (sym (ap (λ (x : code.Configs). x.store) t.others)) (still_same t.was.store))
-        (record {
-          core = t.core ∙ same.0;
-          memory = t.memory ∙ same.1;
-          config = config;
-          uses = t.uses;
-          mapped = ap (λ (x : code.Configs). x.mapped.items) t.others ∙ t.stands.machine.mapped;
-        })
-        (record {
-          names = subst (λ (x : code.Configs). AreNamesOf i.slots x.depth x.store s x.names) (sym t.others) t.stands.named.names;
-          rest = subst (λ (x : code.Configs). IsRest x.store.pairs x.names x.rest) (sym t.others) t.stands.named.rest;
-        }))
+      (ap (λ (x : code.Configs). x.base) t.others)
+      (ap (λ (x : code.Configs). map identity_of x.slots.items) t.others)
+      (ap (λ (x : code.Configs). x.depth) t.others)
+      (ap (λ (x : code.Configs). x.kept) t.others)
+      (subst (IsKeptStill t.was.store) (sym (ap (λ (x : code.Configs). x.store) t.others)) (still_same t.was.store))
+      (record {
+        core = t.core ∙ same.0;
+        memory = t.memory ∙ same.1;
+        config = config;
+        uses = t.uses;
+        mapped = ap (λ (x : code.Configs). x.mapped.items) t.others ∙ t.stands.machine.mapped;
+      })
+      (record {
+        names = subst (λ (x : code.Configs). AreNamesOf i.slots x.depth x.store s x.names) (sym t.others) t.stands.named.names;
+        rest = subst (λ (x : code.Configs). IsRest x.store.pairs x.names x.rest) (sym t.others) t.stands.named.rest;
+      }))
 
   module _ (at : ℕ) (within : at < length c.core.rows) (number : (slot_in c.core at).number ≡ step.slot) where
     inside : at < length later.rows
@@ -460,7 +460,7 @@ module _ (b : Before) (step : Step) (c : code.Configs) (t : HasTurned b step c) 
               depth_2 : c6.depth ≡ c2.depth
               depth_2 = depth_1 ∙ sym (ap (λ (x : code.Configs). x.depth) slots.others)
 
-              next : State
+              abbrev pub next : State
               next = configuration (after s t.item)
 
               named : AreNamesOf i.slots c6.depth c6.store next c6.names

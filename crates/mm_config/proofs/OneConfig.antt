@@ -1,14 +1,13 @@
 -- Names are the same exactly if they are of one configuration.
-use Rattle.std.proofs.Common.{◌≡◌, ℕ, zero, suc, reverse, ◌+◌, ◌<◌, ◌≤◌, Bool, true, false, List, [], ◌∷◌, map, length, slice_get, slice_index_or, Option, Some, None, inl, inr, refl, sym, ap, ◌∙◌, subst, arith, T}
-use Rattle.std.specs.{Prelude.zip, List.AllByRecursion, Ordering.nat_cmp, FinMap.{find, is_sorted, nat_cmp-IsAntisymmetric}, FinMap.Entries.same_entries}
+use Rattle.std.proofs.Common.{◌≡◌, ℕ, zero, suc, reverse, List, [], ◌∷◌, map, length, slice_get, slice_index_or, Some, inl, inr, refl, sym, ap, ◌∙◌, subst, arith, T}
+use Rattle.std.specs.{Prelude.zip, List.AllByRecursion, Ordering.nat_cmp, FinMap.{nat_cmp-IsAntisymmetric}, FinMap.Entries.same_entries}
 use Rattle.std.proofs.lemmas.{Cmp.nat_cmp_total, Bool.cases_lt, List.{length-map, map-id}}
-use Rattle.mm_word.specs.declared.word.Cell.{Cell}
-use Rattle.mm_model.specs.{declared.event.Event.Event, Slot.Slot, Memory.{Memory, page_at, zero_cell}, Image.Image, State.{ThreadRow, Core, State}}
+use Rattle.mm_model.specs.{Slot.Slot, Memory.{Memory, page_at}, Image.Image, State.{ThreadRow, Core, State}}
 use Rattle.mm_model.specs.{Fits.{slots_of, identity_of}, Spelling.IsImage}
-use Rattle.mm_pairs.specs.{Named.{HaveOneName, IsNameOf}, Trees.IsTree}
+use Rattle.mm_pairs.specs.{Named.{IsNameOf}, Trees.IsTree}
 use Rattle.mm_config.specs.declared.{store.Store.Store, names.Names.Names}
-use Rattle.mm_config.specs.{Configurations.{uncounted_slot, uncounted_row, uncounted, configuration}, Forms.{slot_form, queue_form}, Places.page_place, States.IsStateOf}
-use Rattle.mm_config.specs.Naming.{IsSlotName, IsQueueName, IsOutputName, IsPageName, IsOrNone, leaf_at, page_name, AreNamesOf, AreMemoryNames, IsKeptOnce, NamesAreOfOne}
+use Rattle.mm_config.specs.{Configurations.{uncounted_slot, uncounted_row, uncounted, configuration}, Forms.{slot_form, queue_form}, States.IsStateOf}
+use Rattle.mm_config.specs.Naming.{IsSlotName, IsQueueName, IsOutputName, IsPageName, IsOrNone, leaf_at, page_name, AreNamesOf, IsKeptOnce, NamesAreOfOne}
 use Rattle.mm_config.proofs.{SlotForms.form_tells, EventForms.{IsKeptEvent, queue_tells}, Keepables.{IsKeepablePair, slots_kept, queues_kept}}
 use Rattle.mm_config.proofs.NamedOnce.{all_got, maps_same, one_name, leaf_is, leaves_one, trees_same, outputs_tell, one_chain, pages_tell, one_page, heights_same}
 
@@ -101,40 +100,40 @@ module _ (i : Image) (depth : ℕ) (k : Store) (a b : State) (n m : Names) (img 
     same_slots =
         sym (zip_second i.slots (slots_of a.core) (as_many i a ha))
         ∙ maps_same (λ (p : Slot × Slot). uncounted_slot p.1) ours theirs longs (λ at x y p q.
-          let base = base_same at x y p q in
-          let one = leaf_is Is k.pairs depth n.slots ours na.slots at x p in
-          let two = leaf_is Is k.pairs depth m.slots theirs nb.slots at y q in
-          let leaf = ap (λ (v : Names). leaf_at k.pairs depth v.slots at) e in
-          let form : slot_form x.0 x.1 ≡ slot_form y.0 y.1 = sym (subst (λ l. IsNameOf [] k.lists l (slot_form x.0 x.1)) leaf one).is ∙ two.is in
-          let keeps = all_got IsKeepablePair ours (slots_kept i a img ha) at x p in
-          let kept = all_got IsKeepablePair theirs (slots_kept i b img hb) at y q in
-          form_tells y.0 (uncounted_slot x.1) (uncounted_slot y.1) (subst (λ (s : Slot). IsKeepablePair (s, x.1)) base keeps) kept
-            (form_bare y.0 x.1 ∙ ap (λ (s : Slot). slot_form s x.1) (sym base) ∙ form ∙ sym (form_bare y.0 y.1)))
+        let base = base_same at x y p q in
+        let one = leaf_is Is k.pairs depth n.slots ours na.slots at x p in
+        let two = leaf_is Is k.pairs depth m.slots theirs nb.slots at y q in
+        let leaf = ap (λ (v : Names). leaf_at k.pairs depth v.slots at) e in
+        let form : slot_form x.0 x.1 ≡ slot_form y.0 y.1 = sym (subst (λ l. IsNameOf [] k.lists l (slot_form x.0 x.1)) leaf one).is ∙ two.is in
+        let keeps = all_got IsKeepablePair ours (slots_kept i a img ha) at x p in
+        let kept = all_got IsKeepablePair theirs (slots_kept i b img hb) at y q in
+        form_tells y.0 (uncounted_slot x.1) (uncounted_slot y.1) (subst (λ (s : Slot). IsKeepablePair (s, x.1)) base keeps) kept
+        (form_bare y.0 x.1 ∙ ap (λ (s : Slot). slot_form s x.1) (sym base) ∙ form ∙ sym (form_bare y.0 y.1)))
         ∙ zip_second i.slots (slots_of b.core) (as_many i b hb)
 
     same_queues : map (λ (r : ThreadRow). r.queue) a.core.rows ≡ map (λ (r : ThreadRow). r.queue) b.core.rows
     same_queues = maps_same (λ (r : ThreadRow). r.queue) a.core.rows b.core.rows rows_long (λ at x y p q.
-      let one = leaf_is IsQueue k.pairs depth n.queues a.core.rows na.queues at x p in
-      let two = leaf_is IsQueue k.pairs depth m.queues b.core.rows nb.queues at y q in
-      let leaf = ap (λ (v : Names). leaf_at k.pairs depth v.queues at) e in
-      queue_tells x.queue y.queue
-      (all_got (λ (r : ThreadRow). AllByRecursion IsKeptEvent r.queue) a.core.rows (queues_kept i a ha) at x p)
-      (all_got (λ (r : ThreadRow). AllByRecursion IsKeptEvent r.queue) b.core.rows (queues_kept i b hb) at y q)
-      (sym (subst (λ l. IsNameOf [] k.lists l (queue_form x.queue)) leaf one).is ∙ two.is))
+        let one = leaf_is IsQueue k.pairs depth n.queues a.core.rows na.queues at x p in
+        let two = leaf_is IsQueue k.pairs depth m.queues b.core.rows nb.queues at y q in
+        let leaf = ap (λ (v : Names). leaf_at k.pairs depth v.queues at) e in
+        queue_tells x.queue y.queue
+        (all_got (λ (r : ThreadRow). AllByRecursion IsKeptEvent r.queue) a.core.rows (queues_kept i a ha) at x p)
+        (all_got (λ (r : ThreadRow). AllByRecursion IsKeptEvent r.queue) b.core.rows (queues_kept i b hb) at y q)
+        (sym (subst (λ l. IsNameOf [] k.lists l (queue_form x.queue)) leaf one).is ∙ two.is))
 
     same_outputs : a.core.outputs ≡ b.core.outputs
     same_outputs =
         let all = maps_same (λ (o : List ℕ). o) a.core.outputs b.core.outputs outputs_long (λ at x y p q.
-          let one = leaf_is (IsOutputName k) k.pairs 6 n.outputs a.core.outputs na.outputs at x p in
-          let two = leaf_is (IsOutputName k) k.pairs 6 m.outputs b.core.outputs nb.outputs at y q in
-          let leaf = ap (λ (v : Names). leaf_at k.pairs 6 v.outputs at) e in
-          outputs_tell k x y (leaf_at k.pairs 6 m.outputs at) (subst (IsOutputName k x) leaf one) two) in
+        let one = leaf_is (IsOutputName k) k.pairs 6 n.outputs a.core.outputs na.outputs at x p in
+        let two = leaf_is (IsOutputName k) k.pairs 6 m.outputs b.core.outputs nb.outputs at y q in
+        let leaf = ap (λ (v : Names). leaf_at k.pairs 6 v.outputs at) e in
+        outputs_tell k x y (leaf_at k.pairs 6 m.outputs at) (subst (IsOutputName k x) leaf one) two) in
         sym (map-id a.core.outputs) ∙ all ∙ map-id b.core.outputs
 
     same_pages : a.memory.pages ≡ b.memory.pages
     same_pages = same_entries nat_cmp nat_cmp_total nat_cmp-IsAntisymmetric a.memory.pages b.memory.pages (subst T (sym ha.state.pages.rising) tt) (subst T (sym hb.state.pages.rising) tt) (λ number.
-      pages_tell k (page_name k m number) (page_at a.memory number) (page_at b.memory number)
-      (subst (λ (v : Names). IsOrNone (IsPageName k) (page_at a.memory number) (page_name k v number)) e (na.memory.pages number)) (nb.memory.pages number))
+        pages_tell k (page_name k m number) (page_at a.memory number) (page_at b.memory number)
+        (subst (λ (v : Names). IsOrNone (IsPageName k) (page_at a.memory number) (page_name k v number)) e (na.memory.pages number)) (nb.memory.pages number))
 
     pub one_configuration : configuration a ≡ configuration b
     unfolding configuration
@@ -173,39 +172,39 @@ module _ (i : Image) (depth : ℕ) (k : Store) (a b : State) (n m : Names) (img 
 
     name_slots : n.slots ≡ m.slots
     name_slots = leaves_one Is k.pairs depth once.pairs n.slots m.slots ours theirs longs na.slots nb.slots (λ at x y p q one two h g.
-      let base = base_same at x y p q in
-      let left = got_map (λ (r : Slot × Slot). uncounted_slot r.1) ours at x p in
-      let right = got_map (λ (r : Slot × Slot). uncounted_slot r.1) theirs at y q in
-      let here = ap (λ l. slice_get l at) pairs_alike in
-      let slot : uncounted_slot x.1 ≡ uncounted_slot y.1 = cc in
-      one_name [] k.lists once.lists one two (slot_form x.0 x.1) (slot_form y.0 y.1) h g
-      (sym (form_bare x.0 x.1) ∙ (λ j. slot_form (base j) (slot j)) ∙ form_bare y.0 y.1))
+        let base = base_same at x y p q in
+        let left = got_map (λ (r : Slot × Slot). uncounted_slot r.1) ours at x p in
+        let right = got_map (λ (r : Slot × Slot). uncounted_slot r.1) theirs at y q in
+        let here = ap (λ l. slice_get l at) pairs_alike in
+        let slot : uncounted_slot x.1 ≡ uncounted_slot y.1 = cc in
+        one_name [] k.lists once.lists one two (slot_form x.0 x.1) (slot_form y.0 y.1) h g
+        (sym (form_bare x.0 x.1) ∙ (λ j. slot_form (base j) (slot j)) ∙ form_bare y.0 y.1))
 
     name_queues : n.queues ≡ m.queues
     name_queues = leaves_one IsQueue k.pairs depth once.pairs n.queues m.queues a.core.rows b.core.rows rows_long na.queues nb.queues (λ at x y p q one two h g.
-      let left = got_map (λ (r : ThreadRow). r.queue) a.core.rows at x p in
-      let right = got_map (λ (r : ThreadRow). r.queue) b.core.rows at y q in
-      let here = ap (λ l. slice_get l at) queues_alike in
-      let queue : x.queue ≡ y.queue = cc in
-      one_name [] k.lists once.lists one two (queue_form x.queue) (queue_form y.queue) h g (ap queue_form queue))
+        let left = got_map (λ (r : ThreadRow). r.queue) a.core.rows at x p in
+        let right = got_map (λ (r : ThreadRow). r.queue) b.core.rows at y q in
+        let here = ap (λ l. slice_get l at) queues_alike in
+        let queue : x.queue ≡ y.queue = cc in
+        one_name [] k.lists once.lists one two (queue_form x.queue) (queue_form y.queue) h g (ap queue_form queue))
 
     name_outputs : n.outputs ≡ m.outputs
     name_outputs = leaves_one (IsOutputName k) k.pairs 6 once.pairs n.outputs m.outputs a.core.outputs b.core.outputs outputs_long na.outputs nb.outputs (λ at x y p q one two h g.
-      let here = ap (λ l. slice_get l at) outputs_alike in
-      let same : x ≡ y = cc in
-      one_chain k.outputs once.outputs (reverse y) one two (subst (λ o. IsOutputName k o one) same h) g)
+        let here = ap (λ l. slice_get l at) outputs_alike in
+        let same : x ≡ y = cc in
+        one_chain k.outputs once.outputs (reverse y) one two (subst (λ o. IsOutputName k o one) same h) g)
 
     leaf_alike : (at : ℕ) → leaf_at k.pairs n.height n.pages at ≡ leaf_at k.pairs m.height m.pages at
     leaf_alike at = elim (cases_lt at (length k.pages)) [
       | inl low ↦
-        let number = slice_index_or k.pages at 0 in
-        let place = once.pages at low in
-        let one = na.memory.pages number in
-        let two = nb.memory.pages number in
-        ap (leaf_at k.pairs n.height n.pages) (sym place)
-        ∙ one_page k once.pairs once.cells (page_at b.memory number) (page_name k n number) (page_name k m number)
+          let number = slice_index_or k.pages at 0 in
+          let place = once.pages at low in
+          let one = na.memory.pages number in
+          let two = nb.memory.pages number in
+          ap (leaf_at k.pairs n.height n.pages) (sym place)
+          ∙ one_page k once.pairs once.cells (page_at b.memory number) (page_name k n number) (page_name k m number)
           (subst (λ (v : Memory). IsOrNone (IsPageName k) (page_at v number) (page_name k n number)) memory_same one) two
-        ∙ ap (leaf_at k.pairs m.height m.pages) place
+          ∙ ap (leaf_at k.pairs m.height m.pages) place
       | inr high ↦ na.memory.tree.inside at high ∙ sym (nb.memory.tree.inside at high)
     ]
 

@@ -1,13 +1,15 @@
 -- What one note leaves: of a slot, of a queue, and of an output.
-use Rattle.std.proofs.Common.{◌≡◌, ◌⊎◌, inl, inr, Vec, Global, ℕ, ◌+◌, ◌-◌, ◌<◌, ◌≤◌, ◌^◌, List, [], ◌∷◌, ◌++◌, map, length, reverse, slice_get, slice_set, slice_index_or, Option, Some, None, refl, sym, ap, ◌∙◌, subst, arith}
+use Rattle.std.proofs.Common.{◌≡◌, ◌⊎◌, inl, inr, false, nat_eq, eq-eqb, Vec, Global, ℕ, zero, suc, ◌+◌, ◌-◌, ◌*◌, ◌/◌, ◌<◌, ◌≤◌, ◌^◌, bit_and, List, [], ◌∷◌, ◌++◌, map, length, reverse, slice_get, slice_set, slice_index_or, Option, Some, None, refl, sym, ap, ◌∙◌, subst, arith}
 use Rattle.std.proofs.Common.{length-append, get_or-set_same, get_or-set_other}
 use Rattle.std.proofs.Math.Seq.{take-length}
-use Rattle.std.proofs.lemmas.{Bool.cases_eq, List.{reverse-append, get_or_default, get_or-append_right}, Option.{get_or_from_slice_get, slice_get_within}}
-use Rattle.mm_model.specs.{declared.event.Event.Event, Slot.Slot, State.{Core, slot_at, queue_at, output_of}, Fits.{slots_of, identity_of, IsCore}}
+use Rattle.std.proofs.lemmas.Nat.{pow_pos, Bits.{and_pow, shr_and_one, bit_at-lt}}
+use Rattle.std.specs.{Int.{IsBitSet, bit_at}, Option.option_eq}
+use Rattle.std.proofs.lemmas.{Bool.cases_eq, List.{reverse-append, get_or_default, get_or-append_right}, Option.{get_or_from_slice_get}}
+use Rattle.mm_model.specs.{declared.event.Event.Event, Slot.Slot, State.{slot_at, queue_at, output_of}, Fits.{slots_of, identity_of, IsCore}}
 use Rattle.mm_pairs.specs.{Named.{HasGrown, IsNameOf}, Trees.{leaves, IsTree, HasLeaves}}
 use Rattle.mm_pairs.proofs.Names.{length_leaves, tree_stays}
 use Rattle.mm_thread.specs.SlotIndices.{no_slot, slot_in, queue_in}
-use Rattle.mm_thread.proofs.{Index.{slot_found, queue_found}, Revised.slots_many, RowIndex.apart_in}
+use Rattle.mm_thread.proofs.{Index.{slot_found, queue_found}, Revised.slots_many, RowIndex.{apart_in, number_at-small, small_numbers}}
 use Rattle.mm_config.specs.declared.configs.Configs as code
 use Rattle.mm_config.specs.declared.store.Store.{Store}
 use Rattle.mm_config.specs.{Forms.{slot_form, queue_form}, Naming.{IsChain, IsOutputName, leaf_at}, Noting.IsKeptStill}
@@ -37,7 +39,7 @@ notes_weaker Is P Q f old new depth was tree h = record { inner = h.inner; each 
     by k (inl is) = inl is
     by k (inr left) = inr ((λ q. left.0 (f k q)), left.1)
 
-still_same : (k : Store) → IsKeptStill k k
+pub still_same : (k : Store) → IsKeptStill k k
 still_same k = record { pairs = take-length k.pairs; outputs = take-length k.outputs; lists = take-length k.lists; cells = take-length k.cells; pages = take-length k.pages }
 
 -- 2. Slots.
@@ -97,6 +99,71 @@ module _ (c : code.Configs) (at : ℕ) (t : HasTrees c) (within : at < length c.
         leaves = leaf_set (IsSlotNamed new) at name c.store.pairs pairs c.depth c.names.slots tree made has_place (within, subst (IsNameOf [] lists name) form named);
         others = refl;
       }
+
+-- the slots that one handles and that did not run, up to an index
+abbrev pub IsServedBelow : List Slot → (by running at k : ℕ) → Type 0
+IsServedBelow base by running at k = (k < at) × IsServedBy base by running k
+
+zero_of : (b w : ℕ) → b < 2 → 0 < w → b * w ≡ 0 → b ≡ 0
+zero_of zero w lt pos e = refl
+zero_of (suc b) w lt pos e =
+    let none : b ≡ 0 = omega (arith, lt) in
+    let own : w ≡ suc 0 * w = omega arith in
+    let whole : w ≡ 0 = own ∙ ap (λ (n : ℕ). suc n * w) (sym none) ∙ e in
+    absurd (omega (arith, whole, pos))
+
+pub bit_from : (n i : ℕ) → (bit_and (n / 2 ^ i) 1 ≡ 0 → ⊥) → IsBitSet n i
+bit_from n i some none = some (shr_and_one n i ∙ zero_of (bit_at n i) (2 ^ i) (bit_at-lt n i) (pow_pos i) (sym (and_pow n i) ∙ none))
+
+pub same_option : (o : Option ℕ) (n : ℕ) → o ≡ Some n → false ≡ option_eq nat_eq o (Some n) → ⊥
+same_option o n e none = let own = eq-eqb n n refl in let two = ap (λ (x : Option ℕ). option_eq nat_eq x (Some n)) e in cc
+
+module _ (by running at : ℕ) (old now : code.Configs) (t : HasTrees old) (h : NotesSlots (IsServedBelow old.base.items by running at) old now) where
+  now_base : now.base.items ≡ old.base.items
+  now_base = ap (λ (x : code.Configs). x.base.items) h.others
+
+  -- the numbers of the slots are below 64
+  pub read_small : IsCore old.core → (b : Slot) → at < length old.base.items → b ≡ slice_index_or now.base.items at b → b.number < 64
+  read_small whole b lt read =
+      let many = slots_many old.base.items old.core t.same in
+      let inside : at < length old.core.rows = omega (arith, many, lt) in
+      let base_is : b ≡ slice_index_or old.base.items at no_slot = read ∙ ap (λ (l : List Slot). slice_index_or l at b) now_base ∙ get_or_default old.base.items at b no_slot lt in
+      let number : b.number ≡ (slot_in old.core at).number = ap (λ (s : Slot). s.number) base_is ∙ ap (λ i. i.0) (base_identity old.base.items old.core t.same at inside) in
+      let small = number_at-small old.core (small_numbers old.core whole) at inside in
+      omega (arith, number, small)
+
+  -- one more is noted
+  pub one_served : (new : code.Configs) → NotesSlots (λ k. k ≡ at) now new → NotesSlots (IsServedBelow old.base.items by running (at + 1)) old new
+  one_served new own =
+      slots_weaker (λ k. IsServedBelow old.base.items by running at k ⊎ (k ≡ at)) (IsServedBelow old.base.items by running (at + 1)) (λ k q. more k q (cases_eq k at)) old new
+      (slots_twice (IsServedBelow old.base.items by running at) (λ k. k ≡ at) old now new h own)
+    where
+      more : (k : ℕ) → IsServedBelow old.base.items by running (at + 1) k → (k ≡ at) ⊎ (k ≡ at → ⊥) → IsServedBelow old.base.items by running at k ⊎ (k ≡ at)
+      more k q (inl e) = inr e
+      more k q (inr ne) = let lt = q.0 in inl ((omega (arith, lt, ne), q.1))
+
+  -- or it need not be
+  pub none_served : (b : Slot) → at < length old.base.items → b ≡ slice_index_or now.base.items at b → (b.handler ≡ Some by → (IsBitSet running b.number → ⊥) → ⊥)
+      → NotesSlots (IsServedBelow old.base.items by running (at + 1)) old now
+  none_served b lt read unserved =
+      slots_weaker (IsServedBelow old.base.items by running at) (IsServedBelow old.base.items by running (at + 1)) (λ k q. (less k q, q.1)) old now h
+    where
+      base_is : slice_index_or old.base.items at no_slot ≡ b
+      base_is = sym (read ∙ ap (λ (l : List Slot). slice_index_or l at b) now_base ∙ get_or_default old.base.items at b no_slot lt)
+
+      other : (k : ℕ) → IsServedBy old.base.items by running k → k ≡ at → ⊥
+      other k q e =
+          let served : IsServedBy old.base.items by running at = subst (IsServedBy old.base.items by running) e q in
+          unserved (sym (ap (λ (s : Slot). s.handler) base_is) ∙ served.handler) (λ set. served.rests (subst (λ (s : Slot). IsBitSet running s.number) (sym base_is) set))
+
+      less : (k : ℕ) → IsServedBelow old.base.items by running (at + 1) k → k < at
+      less k q = let lt = q.0 in let ne = other k q.1 in omega (arith, lt, ne)
+
+-- all of them
+pub all_served : (by running at : ℕ) (old now : code.Configs) → length old.base.items ≤ at → NotesSlots (IsServedBelow old.base.items by running at) old now
+    → NotesSlots (IsServedBy old.base.items by running) old now
+all_served by running at old now all h =
+    slots_weaker (IsServedBelow old.base.items by running at) (IsServedBy old.base.items by running) (λ k q. (let lt = q.within in omega (arith, lt, all), q)) old now h
 
 -- 3. Queues.
 
@@ -235,7 +302,7 @@ module _ (g before : ℕ) (c : code.Configs) (w : WasOutput g before c) where
   pub no_output_noted : length (output_of c.core g) ≡ before → NotesOutputs (λ k. k ≡ g) c c
   no_output_noted same = record {
     still = still_same c.store;
-    leaves = record { inner = w.inner; each = λ k. elim (cases_eq k g) [ | inl e ↦ inl (here k e) | inr ne ↦ inr (ne, refl) ] };
+    leaves = record { inner = w.inner; each = λ k. elim (cases_eq k g) [ inl e ↦ inl (here k e) | inr ne ↦ inr (ne, refl) ] };
     others = refl;
   }
     where

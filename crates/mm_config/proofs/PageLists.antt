@@ -1,5 +1,5 @@
 -- Ascending lists of pages: one after the other, with one more, and with one less.
-use Rattle.std.proofs.Common.{◌≡◌, ◌≢◌, ◌⊎◌, inl, inr, ℕ, zero, suc, ◌+◌, ◌<◌, ◌≤◌, Bool, true, false, not, cond, ◌&&◌, nat_eq, List, [], ◌∷◌, ◌++◌, map, take, drop, length, insert, remove, slice_get, slice_index_or, Option, Some, None, is_some}
+use Rattle.std.proofs.Common.{◌≡◌, ◌≢◌, inl, inr, ℕ, zero, suc, ◌+◌, ◌<◌, ◌≤◌, Bool, true, false, not, cond, ◌&&◌, nat_eq, List, [], ◌∷◌, map, take, drop, length, insert, remove, slice_get, slice_index_or, Some, None, is_some}
 use Rattle.std.proofs.Common.{refl, sym, ap, ◌∙◌, subst, arith, T, eq-eqb, eqb-true}
 use Rattle.std.proofs.lemmas.{Bool.{ne_eqb, cases_eq, cases_order, Decides.nat_tests}, Cmp.nat_cmp_total, List.{drop_all, length-map, Sums.{common_prefix_len-drop_yes, common_prefix_len-drop_no}}, Option.{get_or_from_slice_get, slice_get_within}}
 use Rattle.std.specs.{Prelude.◌==◌, List.{filter, common_prefix_len}, Cmp.unsigned_tied}
@@ -55,15 +55,17 @@ pub page_added : (es : Pages) → T (is_sorted nat_cmp es) → (at : ℕ) (e : �
     → (find nat_cmp e.0 (take (suc at) es) ≡ Some e.1) × ((q : ℕ) → q ≢ e.0 → find nat_cmp q (take (suc at) es) ≡ find nat_cmp q (take at es))
 page_added [] up at e got = cc
 page_added (x ∷ es) up zero e got =
-    let same : x ≡ e = cc in
-    (ap (λ (y : ℕ × List Cell). find nat_cmp e.0 (y ∷ [])) same ∙ find_here e.0 e [] refl,
-      λ q ne. ap (λ (y : ℕ × List Cell). find nat_cmp q (y ∷ [])) same ∙ find_later q e [] ne)
+    let same : x ≡ e = cc in (
+      ap (λ (y : ℕ × List Cell). find nat_cmp e.0 (y ∷ [])) same ∙ find_here e.0 e [] refl,
+      λ q ne. ap (λ (y : ℕ × List Cell). find nat_cmp q (y ∷ [])) same ∙ find_later q e [] ne,
+    )
 page_added (x ∷ es) up (suc at) e got =
     let parts = both_parts _ _ up in
     let low = above x.0 es parts.0 at e got in
-    let rest = page_added es parts.1 at e got in
-    (find_later e.0 x (take (suc at) es) (λ same. omega (arith, low, same)) ∙ rest.0,
-      λ q ne. find_first q x (take (suc at) es) ∙ ap (cond (nat_eq q x.0) (Some x.1)) (rest.1 q ne) ∙ sym (find_first q x (take at es)))
+    let rest = page_added es parts.1 at e got in (
+      find_later e.0 x (take (suc at) es) (λ same. omega (arith, low, same)) ∙ rest.0,
+      λ q ne. find_first q x (take (suc at) es) ∙ ap (cond (nat_eq q x.0) (Some x.1)) (rest.1 q ne) ∙ sym (find_first q x (take at es)),
+    )
 
 -- 3. One page more, or less: the first difference of the numbers tells which.
 
@@ -211,22 +213,22 @@ fewer (e ∷ es) (f ∷ fs) up rise all =
     λ q ne some. ap is_some (sym (find_later q f fs ne)) ∙ all q some in
     elim (cases_order e.0 f.0) [
       | inl same ↦
-        let rest = fewer es fs tail.1 behind.1 (λ q some.
+          let rest = fewer es fs tail.1 behind.1 (λ q some.
           let lt = found_above e.0 es tail.0 q some in
           in_rest q (λ equal. omega (arith, lt, equal, same)) (ap is_some (find_later q e es (λ equal. omega (arith, lt, equal))) ∙ some)) in
-        omega (arith, rest)
+          omega (arith, rest)
       | inr (inl less) ↦
-        let there = in_rest e.0 (λ equal. omega (arith, less, equal)) (ap is_some (find_here e.0 e es refl)) in
-        let lt = found_above f.0 fs behind.0 e.0 there in
-        absurd (omega (arith, less, lt))
+          let there = in_rest e.0 (λ equal. omega (arith, less, equal)) (ap is_some (find_here e.0 e es refl)) in
+          let lt = found_above f.0 fs behind.0 e.0 there in
+          absurd (omega (arith, less, lt))
       | inr (inr more) ↦
-        let rest = fewer (e ∷ es) fs up behind.1 (λ q some.
+          let rest = fewer (e ∷ es) fs up behind.1 (λ q some.
           let low : e.0 ≤ q = elim (cases_eq q e.0) [
             | inl same ↦ omega (arith, same)
             | inr other ↦ let lt = found_above e.0 es tail.0 q (ap is_some (sym (find_later q e es other)) ∙ some) in omega (arith, lt)
           ] in
           in_rest q (λ equal. omega (arith, more, low, equal)) some) in
-        omega (arith, rest)
+          omega (arith, rest)
     ]
 
 -- one that is among these and not among those

@@ -1,12 +1,12 @@
 -- Trees of pages, made deeper and lower, and with another page.
-use Rattle.std.proofs.Common.{◌≡◌, inl, inr, ℕ, zero, suc, ◌+◌, ◌-◌, ◌/◌, ◌%◌, ◌*◌, ◌^◌, ◌<◌, ◌≤◌, List, [], ◌∷◌, length, slice_index_or, slice_set, Bool, true, false, nat_eq, if◌then◌else◌}
+use Rattle.std.proofs.Common.{◌≡◌, inl, inr, ℕ, zero, suc, ◌-◌, ◌/◌, ◌*◌, ◌^◌, ◌<◌, ◌≤◌, List, length, slice_index_or, slice_set, Bool, true, false, nat_eq, if◌then◌else◌}
 use Rattle.std.proofs.Common.{refl, sym, ap, ◌∙◌, subst, arith, get_or-set_same, get_or-set_other, eqb-true, eq-eqb}
 use Rattle.std.proofs.lemmas.{Bool.cases_lt, List.get_or_past, Nat.{pow_pos, shr_split}}
 use Rattle.std.proofs.Math.{Nat.div-eq_of_lt, Pow.pow_mono, Seq.take-length}
 use Rattle.mm_pairs.specs.{Named.{HasGrown, IsNameOf}, Trees.{pair_of, leaves, IsTree, HasLeaves}}
 use Rattle.mm_pairs.proofs.Names.{no_shorter, grown_twice, tree_stays, leaves_stay, length_leaves, leaf_left, leaf_right}
 use Rattle.mm_config.specs.declared.{store.Store.Store, names.Names.Names}
-use Rattle.mm_config.specs.{Naming.{leaf_at, page_name, IsLow, IsTreeOfPages}, Noting.{IsKeptStill, IsSameTree, HasOtherPages, PutsPage}, Places.page_place}
+use Rattle.mm_config.specs.{Naming.{leaf_at, page_name, IsLow, IsTreeOfPages}, Noting.{IsSameTree, PutsPage}, Places.page_place}
 use Rattle.mm_config.proofs.Placing.{place_tells, place_stays}
 
 -- 1. Leaves.
@@ -44,9 +44,9 @@ half_at : (pairs : List (ℕ × ℕ)) (depth tree : ℕ) → (pair_of pairs tree
 half_at pairs depth tree none at = elim (cases_lt at (2 ^ depth)) [
   | inl low ↦ in_left pairs depth tree at low
   | inr high ↦
-    past pairs depth (pair_of pairs tree).0 at high
-    ∙ sym (ap (λ t. leaf_at pairs depth t (at - 2 ^ depth)) none ∙ none_at pairs depth (at - 2 ^ depth))
-    ∙ in_right pairs depth tree at high
+      past pairs depth (pair_of pairs tree).0 at high
+      ∙ sym (ap (λ t. leaf_at pairs depth t (at - 2 ^ depth)) none ∙ none_at pairs depth (at - 2 ^ depth))
+      ∙ in_right pairs depth tree at high
 ]
 
 -- 2. Deeper and lower.
@@ -67,10 +67,10 @@ module _ (old mid : List (ℕ × ℕ)) (was n : Names) (same : IsSameTree old wa
       subst (λ (p : ℕ × ℕ). IsTree new n.height p.1) (sym name.is) (none_tree new n.height),
     );
     leaves = λ at.
-    ap (λ d. leaf_at new d tree at) is
-    ∙ sym (half_at new n.height tree (ap (λ (p : ℕ × ℕ). p.1) name.is) at)
-    ∙ ap (λ (p : ℕ × ℕ). leaf_at new n.height p.0 at) name.is
-    ∙ leaf_stays mid new grown n.height n.pages same.inner at ∙ same.leaves at;
+        ap (λ d. leaf_at new d tree at) is
+        ∙ sym (half_at new n.height tree (ap (λ (p : ℕ × ℕ). p.1) name.is) at)
+        ∙ ap (λ (p : ℕ × ℕ). leaf_at new n.height p.0 at) name.is
+        ∙ leaf_stays mid new grown n.height n.pages same.inner at ∙ same.leaves at;
   }
 
   -- one level less
@@ -83,9 +83,9 @@ module _ (old mid : List (ℕ × ℕ)) (was n : Names) (same : IsSameTree old wa
         others = ap (λ (m : Names). record m { height = depth; pages = parts.0 }) same.others;
         inner = subst (λ (p : ℕ × ℕ). IsTree mid depth p.0) (sym are) inner.1;
         leaves = λ at.
-        ap (λ (p : ℕ × ℕ). leaf_at mid depth p.0 at) are
-        ∙ half_at mid depth n.pages (ap (λ (p : ℕ × ℕ). p.1) (sym are) ∙ none) at
-        ∙ ap (λ d. leaf_at mid d n.pages at) (sym is) ∙ same.leaves at;
+            ap (λ (p : ℕ × ℕ). leaf_at mid depth p.0 at) are
+            ∙ half_at mid depth n.pages (ap (λ (p : ℕ × ℕ). p.1) (sym are) ∙ none) at
+            ∙ ap (λ d. leaf_at mid d n.pages at) (sym is) ∙ same.leaves at;
       }
 
 -- a place that is past a tree asks for one more level
@@ -132,8 +132,8 @@ module _ (k0 : Store) (n0 n2 n4 : Names) (pages : List ℕ) (mid now : List (ℕ
   unplaced n = elim (place_stays k0.pages pages n kept) [
     | inl e ↦ ap (leaf_at k0.pairs n0.height n0.pages) e
     | inr h ↦
-      let none = h.0 in
-      of.inside (page_place pages n) h.1 ∙ sym (of.inside (page_place k0.pages n) (omega (arith, none)))
+        let none = h.0 in
+        of.inside (page_place pages n) h.1 ∙ sym (of.inside (page_place k0.pages n) (omega (arith, none)))
   ]
 
   names : (n : ℕ) → leaf (page_place pages n) ≡ (if nat_eq n number then name else page_name k0 n0 n)
@@ -143,8 +143,8 @@ module _ (k0 : Store) (n0 n2 n4 : Names) (pages : List ℕ) (mid now : List (ℕ
       by true e = ap (λ m. leaf (page_place pages m)) (eqb-true n number e) ∙ ap leaf (sym at) ∙ here
       by false e =
           there (page_place pages n) (λ same.
-            let is_it : n ≡ number = place_tells pages number n (subst (λ p. p < length pages) at within) (same ∙ at) in
-            let own = eq-eqb n number is_it in cc)
+          let is_it : n ≡ number = place_tells pages number n (subst (λ p. p < length pages) at within) (same ∙ at) in
+          let own = eq-eqb n number is_it in cc)
           ∙ unplaced n
 
   pub puts_page : PutsPage k0 n0 number name (record k0 { pairs = now; pages = pages }) n4

@@ -1,8 +1,8 @@
 -- Places of pages.
-use Rattle.std.proofs.Common.{◌≡◌, ◌⊎◌, inl, inr, ℕ, zero, suc, ◌+◌, ◌<◌, ◌≤◌, Bool, true, false, not, nat_eq, cond, List, [], ◌∷◌, ◌++◌, length, slice_index_or, if◌then◌else◌, drop, take, position, nat_lt, Option, Some, None}
+use Rattle.std.proofs.Common.{◌≡◌, ◌⊎◌, inl, inr, ℕ, zero, suc, ◌+◌, ◌<◌, ◌≤◌, Bool, true, false, not, nat_eq, cond, List, [], ◌∷◌, ◌++◌, length, slice_index_or, if◌then◌else◌, drop, position, nat_lt, Some, None}
 use Rattle.std.proofs.Common.{refl, sym, ap, ◌∙◌, arith, eq-eqb, eqb-true, subst}
 use Rattle.std.proofs.lemmas.{List.{take-append-drop, Folds.position_or_len_push, Sums.prefix_len-le-length}, Bool.ltb-false}
-use Rattle.std.specs.List.{IsDistinct, AllByRecursion, list_any, position_or_len}
+use Rattle.std.specs.List.{IsDistinct, AllByRecursion, list_any}
 use Rattle.indexmap.specs.IndexSet.{insert_key}
 use Rattle.mm_pairs.specs.Named.{HasGrown}
 use Rattle.mm_config.specs.Places.{page_place, HaveOnePlace}

@@ -1,15 +1,15 @@
 -- Cells of a page that are put, change by change.
-use Rattle.std.proofs.Common.{◌≡◌, ◌≢◌, ◌⊎◌, inl, inr, ℕ, zero, suc, ◌+◌, ◌*◌, ◌/◌, ◌%◌, ◌^◌, ◌<◌, ◌≤◌, List, [], ◌∷◌, length, slice_get, slice_index_or, slice_set, Option, Some, None, is_some, Bool, true, false, if◌then◌else◌}
+use Rattle.std.proofs.Common.{◌≡◌, inl, inr, ℕ, zero, suc, ◌+◌, ◌*◌, ◌<◌, ◌≤◌, List, [], ◌∷◌, length, slice_get, slice_index_or, slice_set, Option, Some, None, is_some, Bool, true, false, if◌then◌else◌}
 use Rattle.std.proofs.Common.{refl, sym, ap, ◌∙◌, subst, arith}
 use Rattle.std.specs.List.{AllZip}
-use Rattle.std.proofs.lemmas.{Bool.cases_eq, Option.slice_get_within}
+use Rattle.std.proofs.lemmas.{Option.slice_get_within}
 use Rattle.mm_word.specs.declared.word.Cell.{Cell}
 use Rattle.mm_model.specs.Memory.{Memory, page_at, page_of, place_of, put_cell, map_page, unmap_page, is_mapped, can_map, zero_cell, zero_page}
 use Rattle.mm_model.proofs.Memories.{page_at-put_same, page_at-put_other, put_frames, page_at-map_same, page_at-map_other, map_frames, page_at-unmap_same, page_at-unmap_other, unmap_frames}
 use Rattle.mm_mem.specs.Plain.{Plain}
 use Rattle.mm_pairs.{specs.{Named.{named, IsNameOf}, Trees.{pair_of, changed, leaves}}, proofs.Names.length_leaves}
 use Rattle.mm_config.specs.declared.{store.Store.Store}
-use Rattle.mm_config.specs.{Naming.{AreCells, IsPageName, IsOrNone}, Putting.{IsOnWay, HasPut, AreCellsSoFar}}
+use Rattle.mm_config.specs.{Naming.{AreCells, IsPageName, IsOrNone}, Putting.{HasPut, AreCellsSoFar}}
 use Rattle.mm_config.proofs.{NamedOnce.{cells_tell, same_numbers}, PageCells.zip_set, PutPages.some_name, Noted.zero_cells}
 use Rattle.mm_config.proofs.Walks.{change_is, begins, made, arrived, up_to}
 
@@ -97,7 +97,7 @@ module _ (k : Store) (was wanted number : ℕ) (old : Plain) where
       → HasPut old new number (Some cells)
   all_cells n new cells so end are =
       let same = same_numbers so.names after (so.way.long ∙ long) (arrived before after (λ index name. index < n) so.names long so.way (λ j e got.
-        let lt = slice_get_within (changed 0 before after) j e got in omega (arith, lt, end))) in
+      let lt = slice_get_within (changed 0 before after) j e got in omega (arith, lt, end))) in
       let alike = cells_tell k.cells so.cells cells after (subst (Are k so.cells) same so.are) are.names in
       subst (λ (l : List Cell). HasPut old new number (Some l)) alike so.put
 

@@ -1,15 +1,15 @@
 -- Pages that are put, change by change.
-use Rattle.std.proofs.Common.{◌≡◌, ◌≢◌, ◌⊎◌, inl, inr, ℕ, zero, suc, ◌+◌, ◌<◌, ◌≤◌, ◌^◌, Bool, true, false, not, ◌&&◌, nat_lt, List, [], ◌∷◌, length, slice_get, slice_index_or, slice_set, Option, Some, None, is_some}
+use Rattle.std.proofs.Common.{◌≡◌, ◌≢◌, ◌⊎◌, inl, inr, ℕ, ◌+◌, ◌<◌, ◌≤◌, ◌^◌, true, not, ◌&&◌, nat_lt, List, [], ◌∷◌, length, slice_get, slice_index_or, slice_set, Option, Some, None, is_some}
 use Rattle.std.proofs.Common.{refl, sym, ap, ◌∙◌, subst, arith, T}
 use Rattle.std.proofs.lemmas.{Bool.{cases_eq, cases_lt, lt-ltb}, Cmp.nat_cmp_total, List.{get_or-set_same, get_or-set_other, get_or_past}, Option.slice_get_within}
-use Rattle.std.specs.{Ordering.nat_cmp, List.AllByRecursion, FinMap.{find, is_sorted, nat_cmp-IsAntisymmetric}, FinMap.Entries.same_entries}
+use Rattle.std.specs.{Ordering.nat_cmp, List.AllByRecursion, FinMap.{find, nat_cmp-IsAntisymmetric}, FinMap.Entries.same_entries}
 use Rattle.mm_word.specs.declared.word.Cell.{Cell}
-use Rattle.mm_model.specs.Memory.{Memory, page_at, is_mapped, can_map, IsPage, IsPaged}
+use Rattle.mm_model.specs.Memory.{Memory, page_at, can_map, IsPage, IsPaged}
 use Rattle.mm_mem.specs.Plain.{Plain}
-use Rattle.mm_pairs.{specs.{Named.{HasGrown, IsNameOf}, Trees.{changed, leaves}}, proofs.Names.{length_leaves, grown_twice, tree_stays}}
+use Rattle.mm_pairs.{specs.{Named.{HasGrown}, Trees.{changed, leaves}}, proofs.Names.{length_leaves, grown_twice, tree_stays}}
 use Rattle.std.proofs.Math.Seq.{take-length}
 use Rattle.mm_config.specs.declared.{store.Store.Store, names.Names.Names, put_memory.Changes.Changes}
-use Rattle.mm_config.specs.{Naming.{AreMemoryNames, IsPageName, IsOrNone, leaf_at, page_name}, Noting.{HasMoreCells, IsSameTree}, Places.{page_place, HaveOnePlace}, Putting.{IsOnWay, HasPages, HasPut, CanPut, IsPutSoFar, old_pages, new_pages}}
+use Rattle.mm_config.specs.{Naming.{AreMemoryNames, IsPageName, IsOrNone, leaf_at, page_name}, Noting.{HasMoreCells, IsSameTree}, Places.{page_place, HaveOnePlace}, Putting.{HasPages, HasPut, CanPut, IsPutSoFar, old_pages, new_pages}}
 use Rattle.mm_config.proofs.{NamedOnce.{pages_tell, not_none}, PageLists.{fewer_by_one, find_later}, Placing.place_tells, Noted.{or_none, still_more, memory_more}, PageCells.more_pairs, PageTrees.leaf_stays}
 use Rattle.mm_config.proofs.Walks.{change_is, change_at, begins, made, same_way, arrived, up_to}
 
@@ -81,10 +81,10 @@ module _ (k : Store) (c : Changes) (old : Plain) (can : CanPut k old c) where
         place = place;
         small = elim (cases_eq (slice_index_or was e.0 0) 0) [
           | inl zero_was ↦ small_in can.wanted.pages can.whole.pages.whole number
-            (a_page k (page_at can.wanted number) (slice_index_or names (page_place k.pages number) 0) (λ zero_now. differs (zero_was ∙ sym (ap (λ p. slice_index_or names p 0) (sym place) ∙ zero_now)))
+              (a_page k (page_at can.wanted number) (slice_index_or names (page_place k.pages number) 0) (λ zero_now. differs (zero_was ∙ sym (ap (λ p. slice_index_or names p 0) (sym place) ∙ zero_now)))
               (can.names.pages number))
           | inr some ↦ small_in old.memory.pages can.paged.pages.whole number
-            (a_page k (page_at old.memory number) (slice_index_or was (page_place k.pages number) 0) (λ zero_was. some (ap (λ p. slice_index_or was p 0) (sym place) ∙ zero_was)) (can.was.pages number))
+              (a_page k (page_at old.memory number) (slice_index_or was (page_place k.pages number) 0) (λ zero_was. some (ap (λ p. slice_index_or was p 0) (sym place) ∙ zero_was)) (can.was.pages number))
         ];
         name = ap (λ (p : ℕ × ℕ). p.1) change.is ∙ ap (λ p. slice_index_or names p 0) (sym at);
         differs = differs;
@@ -121,13 +121,13 @@ module _ (k : Store) (c : Changes) (old : Plain) (can : CanPut k old c) where
           inside = λ p high. get_or-set_other so.now e.0 p e.1 0 (λ same. let low = page.within in omega (arith, same, high, low)) ∙ so.pages.inside p high;
           pages = λ q. elim (cases_eq (page_place k.pages q) e.0) [
             | inl same ↦
-              let is_it : q ≡ number = place_tells k.pages number q (let low = page.within in let at = page.place in omega (arith, low, at)) (same ∙ sym page.place) in
-              subst (IsOrNone (IsPageName k) (page_at next.memory q)) (sym (ap (λ p. slice_index_or (slice_set so.now e.0 e.1) p 0) same ∙ here))
-              (subst (λ (x : Option (List Cell)). IsOrNone (IsPageName k) x e.1) (sym (ap (page_at next.memory) is_it ∙ put.is)) named)
+                let is_it : q ≡ number = place_tells k.pages number q (let low = page.within in let at = page.place in omega (arith, low, at)) (same ∙ sym page.place) in
+                subst (IsOrNone (IsPageName k) (page_at next.memory q)) (sym (ap (λ p. slice_index_or (slice_set so.now e.0 e.1) p 0) same ∙ here))
+                (subst (λ (x : Option (List Cell)). IsOrNone (IsPageName k) x e.1) (sym (ap (page_at next.memory) is_it ∙ put.is)) named)
             | inr other ↦
-              let apart : q ≢ number = λ equal. other (ap (page_place k.pages) equal ∙ page.place) in
-              subst (IsOrNone (IsPageName k) (page_at next.memory q)) (sym (get_or-set_other so.now e.0 (page_place k.pages q) e.1 0 other))
-              (subst (λ (x : Option (List Cell)). IsOrNone (IsPageName k) x (slice_index_or so.now (page_place k.pages q) 0)) (sym (put.others q apart)) (so.pages.pages q))
+                let apart : q ≢ number = λ equal. other (ap (page_place k.pages) equal ∙ page.place) in
+                subst (IsOrNone (IsPageName k) (page_at next.memory q)) (sym (get_or-set_other so.now e.0 (page_place k.pages q) e.1 0 other))
+                (subst (λ (x : Option (List Cell)). IsOrNone (IsPageName k) x (slice_index_or so.now (page_place k.pages q) 0)) (sym (put.others q apart)) (so.pages.pages q))
           ];
         };
         frames = put.frames ∙ so.frames;
@@ -164,7 +164,7 @@ module _ (k : Store) (c : Changes) (old : Plain) (can : CanPut k old c) where
         | inl lt ↦ (lt, d.1)
         | inr same ↦ absurd (some (sym (ap (λ (p : ℕ × ℕ). p.1) (alike j n f e g got same)) ∙ d.1))
       ],
-      λ d. let lt = d.0 in (omega (arith, lt), d.1)
+      λ d. let lt = d.0 in (omega (arith, lt), d.1),
     ))
 
     pub unmap_makes : IsPutSoFar k c (Unmapped n) old new → e.1 ≡ 0 → (next : Plain) → HasPut new next (slice_index_or k.pages e.0 0) None → IsPutSoFar k c (Unmapped (n + 1)) old next
@@ -173,7 +173,7 @@ module _ (k : Store) (c : Changes) (old : Plain) (can : CanPut k old c) where
       λ d. elim d [
         | inl u ↦ let lt = u.0 in (omega (arith, lt), u.1)
         | inr same ↦ (omega (arith, same), ap (λ (p : ℕ × ℕ). p.1) (alike j n f e g got same) ∙ none)
-      ]
+      ],
     ))
 
     pub put_skips : IsPutSoFar k c (Put n) old new → e.1 ≡ 0 → IsPutSoFar k c (Put (n + 1)) old new
@@ -185,7 +185,7 @@ module _ (k : Store) (c : Changes) (old : Plain) (can : CanPut k old c) where
           | inr same ↦ inl (ap (λ (p : ℕ × ℕ). p.1) (alike j n f e g got same) ∙ none)
         ]
       ],
-      λ d. elim d [ inl z ↦ inl z | inr lt ↦ inr (omega (arith, lt)) ]
+      λ d. elim d [ inl z ↦ inl z | inr lt ↦ inr (omega (arith, lt)) ],
     ))
 
     pub put_makes : IsPutSoFar k c (Put n) old new → (next : Plain) (cells : List Cell) → HasPut new next (slice_index_or k.pages e.0 0) (Some cells) → IsPageName k cells e.1
@@ -199,7 +199,7 @@ module _ (k : Store) (c : Changes) (old : Plain) (can : CanPut k old c) where
         | inl (inl z) ↦ inl z
         | inl (inr lt) ↦ inr (omega (arith, lt))
         | inr same ↦ inr (omega (arith, same))
-      ]
+      ],
     ))
 
   module _ (n : ℕ) (new : Plain) (end : length c.list.now ≤ n) where
@@ -229,14 +229,14 @@ module _ (k : Store) (c : Changes) (old : Plain) (can : CanPut k old c) where
     wanted_too p now none = elim (so.way.either p) [
       | inr new ↦ now (new ∙ none)
       | inl old_one ↦
-        let differs : slice_index_or was p 0 ≢ slice_index_or names p 0 = λ same. now (old_one ∙ same ∙ none) in
-        let low : p < length names = elim (cases_lt p (length names)) [
-          | inl lt ↦ lt
-          | inr high ↦ let l = so.way.long in let m = long in absurd (now (get_or_past so.now p 0 (omega (arith, high, l, m))))
-        ] in
-        let change = change_at 0 was names long p low differs in
-        let none_at : 0 + p ≡ p = omega arith in
-        now (ap (λ i. slice_index_or so.now i 0) (sym none_at) ∙ so.way.done change.0 (0 + p, slice_index_or names p 0) change.1 (inl none) ∙ none)
+          let differs : slice_index_or was p 0 ≢ slice_index_or names p 0 = λ same. now (old_one ∙ same ∙ none) in
+          let low : p < length names = elim (cases_lt p (length names)) [
+            | inl lt ↦ lt
+            | inr high ↦ let l = so.way.long in let m = long in absurd (now (get_or_past so.now p 0 (omega (arith, high, l, m))))
+          ] in
+          let change = change_at 0 was names long p low differs in
+          let none_at : 0 + p ≡ p = omega arith in
+          now (ap (λ i. slice_index_or so.now i 0) (sym none_at) ∙ so.way.done change.0 (0 + p, slice_index_or names p 0) change.1 (inl none) ∙ none)
     ]
 
     pub has_frame : slice_index_or was e.0 0 ≡ 0 → IsPaged new.memory → can_map new.memory number ≡ true
@@ -248,7 +248,7 @@ module _ (k : Store) (c : Changes) (old : Plain) (can : CanPut k old c) where
         a_page k (page_at can.wanted number) (slice_index_or names (page_place k.pages number) 0) (λ zero_is. some (page.name ∙ ap (λ p. slice_index_or names p 0) (sym page.place) ∙ zero_is)) (can.names.pages number) in
         let less = fewer_by_one new.memory.pages can.wanted.pages number (subst T (sym paged.pages.rising) tt) (subst T (sym can.whole.pages.rising) tt) absent there
         (λ q mapped. a_page k (page_at can.wanted q) (slice_index_or names (page_place k.pages q) 0)
-          (wanted_too (page_place k.pages q) (a_name k (page_at new.memory q) (slice_index_or so.now (page_place k.pages q) 0) mapped (so.pages.pages q))) (can.names.pages q)) in
+        (wanted_too (page_place k.pages q) (a_name k (page_at new.memory q) (slice_index_or so.now (page_place k.pages q) 0) mapped (so.pages.pages q))) (can.names.pages q)) in
         let fit = can.whole.fitting in
         let frames = can.frames in
         let now = so.frames in
@@ -286,8 +286,8 @@ module _ (k : Store) (c : Changes) (old : Plain) (can : CanPut k old c) where
   all_put D new so all paged m whole frames has =
       let same = arrived was names D so.now long so.way (λ j e got. all j e (in_list j e got)) in
       let pages = same_entries nat_cmp nat_cmp_total nat_cmp-IsAntisymmetric new.memory.pages m.pages (subst T (sym paged.pages.rising) tt) (subst T (sym whole.pages.rising) tt) (λ q.
-        pages_tell k (slice_index_or names (page_place k.pages q) 0) (page_at new.memory q) (page_at m q)
-        (subst (IsOrNone (IsPageName k) (page_at new.memory q)) (same (page_place k.pages q)) (so.pages.pages q)) (has.pages q)) in
+      pages_tell k (slice_index_or names (page_place k.pages q) 0) (page_at new.memory q) (page_at m q)
+      (subst (IsOrNone (IsPageName k) (page_at new.memory q)) (same (page_place k.pages q)) (so.pages.pages q)) (has.pages q)) in
       let as_many : new.memory.frames ≡ m.frames = so.frames ∙ sym frames in
       λ j. record { pages = pages j; frames = as_many j }
 
@@ -298,7 +298,7 @@ pub raised_pages : (k k2 : Store) (mid : List (ℕ × ℕ)) (m : Memory) (n : Na
 raised_pages k k2 mid m n height tree h raised grown more = record {
   inside = λ p high. same p ∙ h.tree.inside p (subst (λ (l : List ℕ). length l ≤ p) pages_same high);
   pages = λ q. subst (IsOrNone (IsPageName k2) (page_at m q)) (sym (same (page_place k2.pages q) ∙ ap (λ l. leaf_at k.pairs n.height n.pages (page_place l q)) pages_same))
-  (or_none k k2 (still_more k k2 more) (page_at m q) (page_name k n q) (h.pages q));
+      (or_none k k2 (still_more k k2 more) (page_at m q) (page_name k n q) (h.pages q));
 }
   where
     pages_same : k2.pages ≡ k.pages

@@ -2,7 +2,7 @@
 use Rattle.std.proofs.Common.{◌≡◌, ℕ, zero, suc, ◌+◌, ◌<◌, ◌≤◌, ◌^◌, List, [], ◌∷◌, map, length, slice_index_or, refl, sym, ap, ◌∙◌, subst, arith}
 use Rattle.std.proofs.{lemmas.List.{get_or-map, length-map}, Math.Pow.pow_mono}
 use Rattle.std.specs.Prelude.{zip}
-use Rattle.mm_model.specs.{Slot.Slot, Image.Image, State.{ThreadRow, Core, State}, Fits.{slots_of, identity_of, IsCore}, Spelling.IsImage}
+use Rattle.mm_model.specs.{Slot.Slot, Image.Image, State.{ThreadRow, State}, Fits.{slots_of, identity_of, IsCore}, Spelling.IsImage}
 use Rattle.mm_model.proofs.Fitted.{core_of}
 use Rattle.mm_thread.specs.SlotIndices.{no_slot, no_row, slot_in}
 use Rattle.mm_thread.proofs.{Revised.slots_many, RowIndex.{few_rows, small_numbers}}
@@ -42,6 +42,13 @@ module _ (i : Image) (s : State) (config : IsConfigurationOf i s) where
       pair_get i.slots (slots_of s.core) p lt (omega (arith, lt, many, rows))
       ∙ ap (λ x. (slice_index_or i.slots p no_slot, x)) (get_or-map (λ (row : ThreadRow). row.slot) s.core.rows p no_row no_slot (omega (arith, lt, many)))
 
+  pub few_slots_of : IsImage i → length i.slots ≤ 64
+  few_slots_of img =
+      let core = config_core i s img config in
+      let few = few_rows s.core core.formed.rising (small_numbers s.core core) in
+      let many = slots_rows in
+      omega (arith, many, few)
+
 -- 3. Both.
 
 module _ (wanted : Names) (c : code.Configs) (r : Reaches wanted c) where
@@ -64,10 +71,7 @@ module _ (wanted : Names) (c : code.Configs) (r : Reaches wanted c) where
   same_identities = r.stands.machine.config.state.fits.same_slots ∙ sym r.config.state.fits.same_slots
 
   pub few_base : length c.base.items ≤ 64
-  few_base =
-      let few = few_rows r.at.machine.core own.formed.rising (small_numbers r.at.machine.core own) in
-      let many = base_rows in
-      omega (arith, many, few)
+  few_base = subst (λ (l : List Slot). length l ≤ 64) (sym r.stands.base) (few_slots_of r.image r.at.machine r.stands.machine.config r.stands.image)
 
   pub room : 0 + 2 ^ c.depth < 2 ^ 64
   room = let low = r.stands.depth in let wide = pow_mono {i = c.depth} {j = 6} low in omega (arith, wide)

@@ -1,6 +1,7 @@
 -- Reading the slots whose names differ.
-use Rattle.std.proofs.Common.{◌≡◌, ◌⊎◌, inl, inr, ℕ, zero, suc, ◌+◌, ◌*◌, ◌%◌, ◌<◌, ◌≤◌, ◌^◌, Bool, true, false, List, [], ◌∷◌, map, length, slice_get, slice_set, slice_index_or, bit_or, if◌then◌else◌, Some, refl, sym, ap, ◌∙◌, subst, arith}
-use Rattle.std.proofs.lemmas.{List.{get_or-set_same, get_or-set_other, get_or-map, length-map}, Option.slice_get_within}
+use Rattle.std.proofs.Common.{◌≡◌, inl, inr, ℕ, zero, suc, ◌+◌, ◌<◌, ◌≤◌, Bool, true, false, List, [], ◌∷◌, map, length, slice_get, slice_set, slice_index_or, take, if◌then◌else◌, Some, refl, sym, ap, ◌∙◌, subst, arith}
+use Rattle.std.proofs.lemmas.{List.{get_or-set_same, get_or-set_other, get_or-map, length-map, length-set, take_all, Sums.fold_more}, Option.{slice_get_within, get_or_from_slice_get}}
+use Rattle.std.specs.List.{AllByRecursion}
 use Rattle.std.specs.Prelude.{zip}
 use Rattle.mm_model.specs.{Slot.Slot, Image.Image, Flags.flags, State.{ThreadRow, Core, State}, Fits.{slots_of, identity_of}, Spelling.IsImage}
 use Rattle.mm_model.proofs.CoreRows.{each_get}
@@ -9,8 +10,8 @@ use Rattle.mm_pairs.specs.{Named.{named, HaveOneName}, Trees.{leaves, changed}}
 use Rattle.mm_config.specs.declared.configs.Configs as code
 use Rattle.mm_config.specs.declared.{store.Store.Store, names.Names.Names}
 use Rattle.mm_config.specs.{Configurations.{uncounted_slot, uncounted_row, configuration}, Forms.{slot_form, slot_from}, Keeping.IsConfigurationOf}
-use Rattle.mm_config.specs.{Reaching.{Reaches, KeepsAll, HasReadSlots}, Naming.{AreLeaves, IsSlotName, leaf_at}}
-use Rattle.mm_config.proofs.{NamedOnce.one_name, ChangedLeaves.{leaf_named, entry, left}, Reached.{slots_rows, pair_count, pair_at, few_base}, Masked.{IsMasked, AreMasked, none_masked, one_masked}, Keepables.{IsKeepablePair, slots_kept}, SlotForms.{IsKeepable, slot_read, form_tells}}
+use Rattle.mm_config.specs.{Reaching.{Reaches, KeepsAll, HasReadSlots}, Naming.{AreLeaves, IsSlotName, leaf_at}, Reads.{mask_of, slots_read}}
+use Rattle.mm_config.proofs.{NamedOnce.one_name, ChangedLeaves.{leaf_named, entry, left, all_at}, Reached.{slots_rows, pair_count, pair_at, few_base}, Masked.{IsMasked, AreMasked, all_masked}, Keepables.{IsKeepablePair, slots_kept}, SlotForms.{IsKeepable, slot_read, form_tells}}
 
 abbrev pub slot_changes : Names → code.Configs → List (ℕ × ℕ)
 slot_changes wanted c = changed 0 (leaves c.store.pairs c.depth c.names.slots) (leaves c.store.pairs c.depth wanted.slots)
@@ -112,7 +113,13 @@ module _ (wanted : Names) (c : code.Configs) (r : Reaches wanted c) where
       ∙ slot_left r.image c.store c.depth r.at.machine r.state c.names.slots wanted.slots r.stands.image r.stands.machine.config r.config r.stands.named.names.slots r.names.slots p
       (subst (λ (l : List Slot). p < length l) r.stands.base within) none
 
--- 4. The loop.
+-- 4. All slots.
+
+-- an index past the end, under a map
+at_map : {A B : Type 0} (f : A → B) (xs : List A) (p : ℕ) (d : A) → slice_index_or (map f xs) p (f d) ≡ f (slice_index_or xs p d)
+at_map f [] p d = refl
+at_map f (x ∷ xs) zero d = refl
+at_map f (x ∷ xs) (suc p) d = at_map f xs p d
 
 identities_set : (slots : List Slot) (p : ℕ) (x : Slot) → identity_of x ≡ identity_of (slice_index_or slots p no_slot) → map identity_of (slice_set slots p x) ≡ map identity_of slots
 identities_set [] p x e = refl
@@ -124,61 +131,79 @@ read_identity : (base : Slot) (ns : List ℕ) → identity_of (slot_from base ns
 unfolding slot_from
 read_identity base ns = refl
 
-same_identity : (xs ys : List Slot) → map identity_of xs ≡ map identity_of ys → (p : ℕ) → p < length xs → p < length ys → identity_of (slice_index_or xs p no_slot) ≡ identity_of (slice_index_or ys p no_slot)
-same_identity xs ys same p lx ly =
-    sym (get_or-map identity_of xs p no_slot (identity_of no_slot) lx) ∙ ap (λ l. slice_index_or l p (identity_of no_slot)) same ∙ get_or-map identity_of ys p no_slot (identity_of no_slot) ly
+module _ (lists : List (List ℕ)) (base : List Slot) where
+  -- there are as many slots, with the identities that they had
+  identities : (changes : List (ℕ × ℕ)) (slots : List Slot) → map identity_of slots ≡ map identity_of base → map identity_of (slots_read lists base changes slots) ≡ map identity_of base
+  identities [] slots same = same
+  identities (e ∷ changes) slots same =
+      let made = slot_from (slice_index_or base e.0 no_slot) (named [] lists e.1) in
+      let identity : identity_of made ≡ identity_of (slice_index_or slots e.0 no_slot) =
+      read_identity (slice_index_or base e.0 no_slot) (named [] lists e.1) ∙ sym (at_map identity_of base e.0 no_slot) ∙ ap (λ l. slice_index_or l e.0 (identity_of no_slot)) (sym same) ∙ at_map identity_of slots e.0 no_slot in
+      identities changes (slice_set slots e.0 made) (identities_set slots e.0 made identity ∙ same)
 
--- the slots of the first changes are read, and set in the mask
-pub record SlotsSoFar (core : Core) (old now : code.Configs) (n mask : ℕ) : Type 0 where
-  pub each : AreMasked now.changed.items (λ p. slice_index_or now.slots.items p no_slot ≡ slot_in core p) (length old.base.items) n mask
-  pub room : map identity_of now.slots.items ≡ map identity_of old.slots.items
-  pub others : KeepsAll old now
+  read_long : (changes : List (ℕ × ℕ)) (slots : List Slot) → length (slots_read lists base changes slots) ≡ length slots
+  read_long [] slots = refl
+  read_long (e ∷ changes) slots =
+      let made = slot_from (slice_index_or base e.0 no_slot) (named [] lists e.1) in
+      read_long changes (slice_set slots e.0 made) ∙ length-set slots e.0 made
 
 module _ (wanted : Names) (c : code.Configs) (r : Reaches wanted c) where
-  abbrev to : Core
-  to = r.state.core
+  pub kept_slots : AllByRecursion (λ (e : ℕ × ℕ). (e.0 < length c.base.items) × (e.1 ≤ length c.store.lists)) (slot_changes wanted c)
+  kept_slots = all_at (λ (e : ℕ × ℕ). (e.0 < length c.base.items) × (e.1 ≤ length c.store.lists)) (slot_changes wanted c) (λ j e got. let h = slot_entry wanted c r j e got in (h.within, h.name))
 
-  pub no_slots_read : (now : code.Configs) → KeepsAll c now → now.slots ≡ c.slots → SlotsSoFar to c now 0 0
-  no_slots_read now others slots = record {
-    each = none_masked now.changed.items (λ p. slice_index_or now.slots.items p no_slot ≡ slot_in to p) (length c.base.items);
-    room = ap (λ s. map identity_of s.items) slots;
+  pub few_places : AllByRecursion (λ (e : ℕ × ℕ). e.0 < 64) (slot_changes wanted c)
+  few_places = all_at (λ (e : ℕ × ℕ). e.0 < 64) (slot_changes wanted c) (λ j e got. let low = (slot_entry wanted c r j e got).within in let few = few_base wanted c r in omega (arith, low, few))
+
+  pub as_many_slots : length c.slots.items ≡ length c.base.items
+  as_many_slots = sym (length-map c.slots.items identity_of) ∙ ap length r.stands.room ∙ length-map r.image.slots identity_of ∙ ap length (sym r.stands.base)
+
+  -- the slots after the first changes
+  abbrev after : ℕ → List Slot
+  after n = slots_read c.store.lists c.base.items (take n (slot_changes wanted c)) c.slots.items
+
+  abbrev made : ℕ × ℕ → Slot
+  made e = slot_from (slice_index_or c.base.items e.0 no_slot) (named [] c.store.lists e.1)
+
+  abbrev IsReadAt : ℕ → ℕ → Type 0
+  IsReadAt n p = slice_index_or (after n) p no_slot ≡ slot_in r.state.core p
+
+  step : (n : ℕ) (e : ℕ × ℕ) → slice_get (slot_changes wanted c) n ≡ Some e → after (n + 1) ≡ slice_set (after n) e.0 (made e)
+  step n e got =
+      let changes = slot_changes wanted c in
+      let is = get_or_from_slice_get changes n e (0, 0) got in
+      fold_more (λ (now : List Slot) (x : ℕ × ℕ). slice_set now x.0 (slot_from (slice_index_or c.base.items x.0 no_slot) (named [] c.store.lists x.1))) c.slots.items changes n (0, 0)
+      (slice_get_within changes n e got)
+      ∙ ap (λ (x : ℕ × ℕ). slice_set (after n) x.0 (made x)) is
+
+  pub slots_are_read : (now : code.Configs) → now.slots.items ≡ slots_read c.store.lists c.base.items (slot_changes wanted c) c.slots.items → KeepsAll c now
+      → HasReadSlots r.state.core c now (mask_of (slot_changes wanted c))
+  slots_are_read now is others = record {
+    slots = λ p lt. by p lt (so p lt);
+    room =
+        ap (map identity_of) is
+        ∙ identities c.store.lists c.base.items (slot_changes wanted c) c.slots.items (r.stands.room ∙ ap (map identity_of) (sym r.stands.base)) ∙ ap (map identity_of) r.stands.base ∙ sym r.stands.room;
     others = others;
   }
-
-  -- there is room for each slot
-  pub room_for : (now : code.Configs) (n mask : ℕ) → SlotsSoFar to c now n mask → length now.slots.items ≡ length c.base.items
-  room_for now n mask so =
-      sym (length-map now.slots.items identity_of) ∙ ap length (so.room ∙ r.stands.room) ∙ length-map r.image.slots identity_of ∙ ap length (sym r.stands.base)
-
-  pub one_slot_read : (now next : code.Configs) (n mask : ℕ) (e : ℕ × ℕ) → SlotsSoFar to c now n mask → slice_get now.changed.items n ≡ Some e → SlotEntry wanted c r e
-      → next.slots.items ≡ slice_set now.slots.items e.0 (slot_from (slice_index_or c.base.items e.0 no_slot) (named [] c.store.lists e.1)) → next.changed ≡ now.changed → KeepsAll now next
-      → SlotsSoFar to c next (n + 1) (bit_or mask (1 * 2 ^ e.0 % 2 ^ 64))
-  one_slot_read now next n mask e so got h slots changed others = record {
-    each = subst (λ v. AreMasked v IsRead (length c.base.items) (n + 1) (bit_or mask (1 * 2 ^ e.0 % 2 ^ 64))) (ap (λ v. v.items) (sym changed))
-        (one_masked now.changed.items (λ p. slice_index_or now.slots.items p no_slot ≡ slot_in to p) IsRead (length c.base.items) n mask e (few_base wanted c r) so.each got h.within
-          (λ p ne is. ap (λ l. slice_index_or l p no_slot) slots ∙ get_or-set_other now.slots.items e.0 p made no_slot ne ∙ is)
-          (ap (λ l. slice_index_or l e.0 no_slot) slots ∙ get_or-set_same now.slots.items e.0 made no_slot inside ∙ h.is));
-    room = ap (map identity_of) slots ∙ identities_set now.slots.items e.0 made identity ∙ so.room;
-    others = others ∙ ap (λ (d : code.Configs). record d { slots = next.slots; revision = next.revision; changed = next.changed }) so.others;
-  }
     where
-      made : Slot
-      made = slot_from (slice_index_or c.base.items e.0 no_slot) (named [] c.store.lists e.1)
+      changes : List (ℕ × ℕ)
+      changes = slot_changes wanted c
 
-      IsRead : ℕ → Type 0
-      IsRead p = slice_index_or next.slots.items p no_slot ≡ slot_in to p
+      set : List Bool
+      set = flags (length c.base.items) (mask_of changes)
 
-      inside : e.0 < length now.slots.items
-      inside = let low = h.within in let long = room_for now n mask so in omega (arith, low, long)
+      so : AreMasked changes (IsReadAt (length changes)) (length c.base.items) (length changes) (mask_of changes)
+      so = all_masked changes IsReadAt (length c.base.items) (few_base wanted c r) (λ j e got. (slot_entry wanted c r j e got).within)
+          (λ n p e got ne was. ap (λ l. slice_index_or l p no_slot) (step n e got) ∙ get_or-set_other (after n) e.0 p (made e) no_slot ne ∙ was)
+          (λ n e got.
+          let h = slot_entry wanted c r n e got in
+          let low = h.within in
+          let long = read_long c.store.lists c.base.items (take n changes) c.slots.items in
+          let many = as_many_slots in
+          ap (λ l. slice_index_or l e.0 no_slot) (step n e got) ∙ get_or-set_same (after n) e.0 (made e) no_slot (omega (arith, low, long, many)) ∙ h.is)
 
-      identity : identity_of made ≡ identity_of (slice_index_or now.slots.items e.0 no_slot)
-      identity =
-          read_identity (slice_index_or c.base.items e.0 no_slot) (named [] c.store.lists e.1)
-          ∙ sym (same_identity now.slots.items c.base.items (so.room ∙ r.stands.room ∙ ap (map identity_of) (sym r.stands.base)) e.0 inside h.within)
+      all : after (length changes) ≡ now.slots.items
+      all = ap (λ l. slots_read c.store.lists c.base.items l c.slots.items) (take_all (length changes) changes (omega arith)) ∙ sym is
 
-  pub all_slots_read : (now : code.Configs) (n mask : ℕ) → SlotsSoFar to c now n mask → now.changed.items ≡ slot_changes wanted c → length now.changed.items ≤ n → HasReadSlots to c now mask
-  all_slots_read now n mask so list end = record { slots = λ p lt. by p lt (so.each p lt); room = so.room; others = so.others }
-    where
       pick : (b : Bool) (x y z : Slot) → b ≡ true → x ≡ z → (if b then x else y) ≡ z
       pick true x y z e h = h
       pick false x y z e h = cc
@@ -187,12 +212,10 @@ module _ (wanted : Names) (c : code.Configs) (r : Reaches wanted c) where
       leave true x y z e h = cc
       leave false x y z e h = h
 
-      by : (p : ℕ) → p < length c.base.items → IsMasked now.changed.items (λ q. slice_index_or now.slots.items q no_slot ≡ slot_in to q) n (flags (length c.base.items) mask) p
-          → (if slice_index_or (flags (length c.base.items) mask) p false then slice_index_or now.slots.items p no_slot else slot_in c.core p) ≡ slot_in to p
-      by p lt (inl h) = pick (slice_index_or (flags (length c.base.items) mask) p false) (slice_index_or now.slots.items p no_slot) (slot_in c.core p) (slot_in to p) h.0 h.1
+      by : (p : ℕ) → p < length c.base.items → IsMasked changes (IsReadAt (length changes)) (length changes) set p
+          → (if slice_index_or set p false then slice_index_or now.slots.items p no_slot else slot_in c.core p) ≡ slot_in r.state.core p
+      by p lt (inl h) =
+          pick (slice_index_or set p false) (slice_index_or now.slots.items p no_slot) (slot_in c.core p) (slot_in r.state.core p) h.0 (ap (λ l. slice_index_or l p no_slot) (sym all) ∙ h.1)
       by p lt (inr h) =
-          leave (slice_index_or (flags (length c.base.items) mask) p false) (slice_index_or now.slots.items p no_slot) (slot_in c.core p) (slot_in to p) h.0
-          (slot_stays wanted c r p lt (λ j e got same.
-            let there : slice_get now.changed.items j ≡ Some e = ap (λ l. slice_get l j) list ∙ got in
-            let in_list = slice_get_within now.changed.items j e there in
-            h.1 j e (omega (arith, in_list, end)) there same))
+          leave (slice_index_or set p false) (slice_index_or now.slots.items p no_slot) (slot_in c.core p) (slot_in r.state.core p) h.0
+          (slot_stays wanted c r p lt (λ j e got same. h.1 j e (slice_get_within changes j e got) got same))

@@ -10,19 +10,19 @@ use Rattle.mm_thread.specs.Revisions.{Extension, with_slots, with_queues, with_o
 use Rattle.mm_config.specs.Reaching.{IsListed, Extends}
 
 -- what leads from a core to another
-pub record LeadsTo (core wanted : Core) (changed : List Bool) (slots : List Slot) (queues : List (ℕ × List Event)) (outputs : List Extension) : Type 0 where
+pub record LeadsTo (core wanted : Core) (changed : List Bool) (read : List Slot) (queued : List (ℕ × List Event)) (extended : List Extension) : Type 0 where
   pub rows : length core.rows ≡ length wanted.rows
   pub groups : length core.outputs ≡ length wanted.outputs
   pub version : core.version ≡ wanted.version
   pub split : core.split ≡ wanted.split
   pub flags : length changed ≡ length core.rows
-  pub many : length slots ≡ length core.rows
+  pub many : length read ≡ length core.rows
   pub slots : (k : ℕ) → k < length core.rows
-      → (if get_or changed k false then get_or slots k no_slot else slot_in core k) ≡ slot_in wanted k
-  pub queues : AllByRecursion (λ (x : ℕ × List Event). x.1 ≡ queue_in wanted x.0) queues
-  pub other_queues : (k : ℕ) → k < length core.rows → IsListed (λ (x : ℕ × List Event). x.0) k queues ⊎ (queue_in core k ≡ queue_in wanted k)
-  pub outputs : AllByRecursion (Extends core wanted) outputs
-  pub other_outputs : (g : ℕ) → g < length core.outputs → IsListed (λ (x : Extension). x.group) g outputs ⊎ (output_of core g ≡ output_of wanted g)
+      → (if get_or changed k false then get_or read k no_slot else slot_in core k) ≡ slot_in wanted k
+  pub queues : AllByRecursion (λ (x : ℕ × List Event). x.1 ≡ queue_in wanted x.0) queued
+  pub other_queues : (k : ℕ) → k < length core.rows → IsListed (λ (x : ℕ × List Event). x.0) k queued ⊎ (queue_in core k ≡ queue_in wanted k)
+  pub outputs : AllByRecursion (Extends core wanted) extended
+  pub other_outputs : (g : ℕ) → g < length core.outputs → IsListed (λ (x : Extension). x.group) g extended ⊎ (output_of core g ≡ output_of wanted g)
 
 -- 1. Slots.
 

@@ -1,16 +1,16 @@
 -- Slots, read again from their differences from the image's.
-use Rattle.std.proofs.Common.{◌≡◌, ℕ, suc, ◌+◌, ◌*◌, ◌/◌, ◌%◌, ◌^◌, ◌<◌, ◌≤◌, Bool, true, false, not, ◌||◌}
-use Rattle.std.proofs.Common.{if◌then◌else◌, List, [], ◌∷◌, ◌++◌, map, length, Option, Some, None, refl, sym, ap, ◌∙◌}
-use Rattle.std.proofs.Common.{subst, arith, eqb-true, append_assoc}
+use Rattle.std.proofs.Common.{◌≡◌, ℕ, suc, ◌+◌, ◌*◌, ◌/◌, ◌%◌, ◌^◌, ◌<◌, ◌≤◌, Bool, true}
+use Rattle.std.proofs.Common.{if◌then◌else◌, List, [], ◌∷◌, ◌++◌, map, length, Some, None, refl, sym, ap, ◌∙◌}
+use Rattle.std.proofs.Common.{subst, arith}
 use Rattle.std.proofs.lemmas.List.{append-nil}
-use Rattle.std.proofs.lemmas.Bool.{le-ltb, cond-false, ne_eqb, and_parts, not-true}
-use Rattle.std.specs.{Prelude.{◌==◌, replicate}, List.{AllByRecursion, flat_map, list_any}}
-use Rattle.mm_model.proofs.{Bytes.Apart.number_of_flags-below, Sames.{bits_same, words_same}}
+use Rattle.std.proofs.lemmas.Bool.{le-ltb, cond-false, ne_eqb}
+use Rattle.std.specs.{Prelude.{◌==◌}, List.{AllByRecursion, flat_map}}
+use Rattle.mm_model.proofs.{Bytes.Apart.number_of_flags-below}
 use Rattle.mm_model.proofs.OneIf.{below_two, one_back}
 use Rattle.mm_model.specs.declared.slot.SlotState.{SlotState, TheVariants.{Running, Waiting, Taken, Halted}}
-use Rattle.mm_model.specs.{declared.slot.Pending.Pending, Effect.same_word, Flags.{one_if, number_of_flags}}
-use Rattle.mm_model.specs.{Report.same_bit, Slot.Slot}
-use Rattle.mm_word.specs.{declared.word.Word.{Word, TheVariants.Ptr}, Cause.{number_of, cause_of}, Perm.can_fetch}
+use Rattle.mm_model.specs.{declared.slot.Pending.Pending, Flags.{one_if, number_of_flags}}
+use Rattle.mm_model.specs.{Slot.Slot}
+use Rattle.mm_word.specs.{declared.word.Word.{Word}, Cause.{number_of, cause_of}, Perm.can_fetch}
 use Rattle.mm_word.specs.{Pointer.{Pointer, IsWellFormed, bits_of}, Word.is_pointer}
 use Rattle.mm_word.proofs.Causes.{cause_back, number_within}
 use Rattle.mm_config.specs.{Configurations.uncounted_slot, StateNumbers.state_number}

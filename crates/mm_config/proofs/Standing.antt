@@ -1,18 +1,18 @@
 -- A machine that is put to another configuration.
-use Rattle.std.proofs.Common.{◌≡◌, ◌⊎◌, Vec, Global, ℕ, ◌+◌, ◌<◌, ◌≤◌, ◌^◌, List, [], ◌∷◌, ◌++◌, map, length, take, Bool, false, if◌then◌else◌, slice_index_or, refl, sym, ap, ◌∙◌, subst, arith, length-append}
+use Rattle.std.proofs.Common.{◌≡◌, ◌⊎◌, Vec, Global, ℕ, ◌+◌, ◌<◌, ◌≤◌, ◌^◌, List, map, length, take, false, if◌then◌else◌, slice_index_or, sym, ap, ◌∙◌, subst, arith, length-append}
 use Rattle.std.proofs.lemmas.List.{length-map, length-take-le}
 use Rattle.std.specs.List.{AllByRecursion, AllZip}
-use Rattle.mm_model.specs.{declared.event.Event.Event, Slot.Slot, Flags.flags, Memory.{Memory, IsPaged}, Image.Image, State.{ThreadRow, Core, State, output_of}}
-use Rattle.mm_model.specs.{Fits.{slots_of, identity_of, IsCore}, Spelling.IsImage}
+use Rattle.mm_model.specs.{declared.event.Event.Event, Slot.Slot, Flags.flags, Memory.{Memory, IsPaged}, Image.Image, State.{Core, State, output_of}}
+use Rattle.mm_model.specs.{Fits.{slots_of, identity_of, IsCore}}
 use Rattle.mm_model.proofs.{Bytes.Bitmaps.length-flags, CoreRows.each_map, Shortness.queue_short}
 use Rattle.mm_thread.specs.{declared.restore.Revision.Revision, SlotIndices.{no_slot, slot_in, queue_in}, Revisions.{Extension, queue_in_place, queues_in, outputs_in, revised}}
 use Rattle.mm_thread.proofs.{Cores.output_short, Index.queue_found, RowIndex.apart_in}
 use Rattle.mm_config.specs.declared.configs.Configs as code
 use Rattle.mm_config.specs.declared.{store.Store.Store, names.Names.Names}
-use Rattle.mm_config.specs.{Configurations.configuration, Machines.Configs, Naming.{AreNamesOf, AreMemoryNames, IsRest, IsKeptOnce}, Noting.{IsKeptStill, HasMoreCells, mapped_pages}}
+use Rattle.mm_config.specs.{Machines.Configs, Naming.{AreNamesOf, AreMemoryNames, IsRest, IsKeptOnce}, Noting.{IsKeptStill, HasMoreCells, mapped_pages}}
 use Rattle.mm_config.specs.Keeping.{IsConfigurationOf, IsKeyOf, IsMachineAt, HasNamesOf, Stands}
 use Rattle.mm_config.specs.Reaching.{HasConfiguration, Reaches, HasPutCore, KeepsAll, HasReadSlots, HasReadQueues, HasReadOutputs, IsListed, Extends}
-pub use Rattle.mm_config.proofs.Reached.config_core
+pub use Rattle.mm_config.proofs.Reached.{config_core}
 use Rattle.mm_config.proofs.{Reached.{slots_rows, own, aim, base_rows, as_many, groups, few_base}, Keys.key_tells, Zips.{zip_long, zip_from, each_at}, Noted.still_more, Staying.{keys_stay, names_stay, rest_stays}, Revising.{LeadsTo, revised_is}}
 
 -- 1. A machine stands if it is at a configuration, with its names, and if what was kept still is.
@@ -50,7 +50,7 @@ stands_still i v old new h others room = subst (Stands i v) (sym others) (record
 })
 
 -- and reaches what it reached
-pub reaches_still : (wanted : Names) (old new : code.Configs) → Reaches wanted old → KeepsAll old new
+abbrev pub reaches_still : (wanted : Names) (old new : code.Configs) → Reaches wanted old → KeepsAll old new
     → map identity_of new.slots.items ≡ map identity_of old.slots.items → Reaches wanted new
 reaches_still wanted old new r others room = record {
   image = r.image;
@@ -74,7 +74,7 @@ module _ (c : code.Configs) (key : ℕ × ℕ) (h : HasConfiguration c key) wher
   pub wanted_is : (w : Names) → ((n : Names) → IsRest c.store.pairs n key.1 → w ≡ record n { slots = key.0 }) → w ≡ h.is.names
   wanted_is w is = is h.is.names h.is.rest ∙ ap (λ x. record h.is.names { slots = x }) h.is.slots
 
-  pub reaches_it : (w : Names) → w ≡ h.is.names → Reaches w c
+  abbrev pub reaches_it : (w : Names) → w ≡ h.is.names → Reaches w c
   reaches_it w e = record {
     image = h.image;
     at = h.at;
@@ -88,7 +88,7 @@ module _ (c : code.Configs) (key : ℕ × ℕ) (h : HasConfiguration c key) wher
 pub kept_long : (i : Image) (v : Configs) (c : code.Configs) → Stands i v c → length v.kept ≡ length c.kept.keys
 kept_long i v c h = zip_long (IsKeyOf i.slots c.depth c.store) v.kept c.kept.keys h.each
 
-pub has_kept : (i : Image) (v : Configs) (c : code.Configs) → Stands i v c → (at : ℕ) (key : ℕ × ℕ) → at < length v.kept → key ≡ slice_index_or c.kept.keys at (0, 0) → HasConfiguration c key
+abbrev pub has_kept : (i : Image) (v : Configs) (c : code.Configs) → Stands i v c → (at : ℕ) (key : ℕ × ℕ) → at < length v.kept → key ≡ slice_index_or c.kept.keys at (0, 0) → HasConfiguration c key
 has_kept i v c h at key lt same = record {
   image = i;
   at = v;
@@ -100,13 +100,40 @@ has_kept i v c h at key lt same = record {
 
 -- 3. The core.
 
-module _ (wanted : Names) (c0 c1 c2 c3 : code.Configs) (r : Reaches wanted c0) (mask : ℕ) (one : HasReadSlots r.state.core c0 c1 mask)
-    (two : HasReadQueues r.state.core c1 c2) (three : HasReadOutputs r.state.core c2 c3) where
+-- what revising asks, and leads to
+pub record MayRevise (core to : Core) (slots : List Slot) (mask : ℕ) (revision : Revision) : Type 0 where
+  pub whole : IsCore (revised core (flags (length slots) mask) slots (queues_in revision) (outputs_in revision))
+  pub same : map identity_of slots ≡ map identity_of (slots_of core)
+  pub few : length slots ≤ 64
+  pub queues : AllByRecursion (λ (x : ℕ × List Event). (x.0 < length slots) × (length x.1 ≤ 64)) (queues_in revision)
+  pub outputs : AllByRecursion (λ (x : Extension). (x.group < 64) × (x.kept + length x.bytes ≤ 65536)) (outputs_in revision)
+  pub is : revised core (flags (length slots) mask) slots (queues_in revision) (outputs_in revision) ≡ to
+
+module _ (wanted : Names) (c0 c1 c2 c3 : code.Configs) (mask : ℕ) (first : (r : Reaches wanted c0) → HasReadSlots r.state.core c0 c1 mask)
+    (second : (r : Reaches wanted c1) → HasReadQueues r.state.core c1 c2) (third : (r : Reaches wanted c2) → HasReadOutputs r.state.core c2 c3) (r : Reaches wanted c0) where
   abbrev was : Core
   was = r.at.machine.core
 
   abbrev to : Core
   to = r.state.core
+
+  one : HasReadSlots to c0 c1 mask
+  one = first r
+
+  abbrev r1 : Reaches wanted c1
+  r1 = reaches_still wanted c0 c1 r one.others one.room
+
+  two : HasReadQueues to c1 c2
+  two = second r1
+
+  three : HasReadOutputs to c2 c3
+  three = third (reaches_still wanted c1 c2 r1 two.others (ap (λ s. map identity_of s.items) two.room))
+
+  from : IsCore was
+  from = own wanted c0 r
+
+  goal : IsCore to
+  goal = aim wanted c0 r
 
   core_1 : c1.core ≡ was
   core_1 = ap (λ (c : code.Configs). c.core) one.others ∙ r.stands.machine.core
@@ -117,16 +144,11 @@ module _ (wanted : Names) (c0 c1 c2 c3 : code.Configs) (r : Reaches wanted c0) (
   core_3 : c3.core ≡ was
   core_3 = ap (λ (c : code.Configs). c.core) three.others ∙ core_2
 
-  pub room_is : map identity_of c3.slots.items ≡ map identity_of (slots_of c3.core)
-  room_is =
-      ap (λ s. map identity_of s.items) three.room ∙ ap (λ s. map identity_of s.items) two.room ∙ one.room ∙ r.stands.room
-      ∙ sym r.stands.machine.config.state.fits.same_slots ∙ ap (λ (k : Core). map identity_of (slots_of k)) (sym core_3)
+  room : map identity_of c3.slots.items ≡ map identity_of r.image.slots
+  room = ap (λ s. map identity_of s.items) (three.room ∙ two.room) ∙ one.room ∙ r.stands.room
 
   many : length c3.slots.items ≡ length was.rows
-  many =
-      let rows = slots_rows r.image r.at.machine r.stands.machine.config in
-      sym (length-map c3.slots.items identity_of) ∙ ap length (ap (λ s. map identity_of s.items) three.room ∙ ap (λ s. map identity_of s.items) two.room ∙ one.room ∙ r.stands.room)
-      ∙ length-map r.image.slots identity_of ∙ rows
+  many = sym (length-map c3.slots.items identity_of) ∙ ap length room ∙ length-map r.image.slots identity_of ∙ slots_rows r.image r.at.machine r.stands.machine.config
 
   slots_lead : (k : ℕ) → k < length was.rows
       → (if slice_index_or (flags (length c3.slots.items) mask) k false then slice_index_or c3.slots.items k no_slot else slot_in was k) ≡ slot_in to k
@@ -169,20 +191,9 @@ module _ (wanted : Names) (c0 c1 c2 c3 : code.Configs) (r : Reaches wanted c0) (
         (three.rest g (subst (λ (core : Core). g < length core.outputs) (sym core_2) lt));
   }
 
-  pub core_is : revised c3.core (flags (length c3.slots.items) mask) c3.slots.items (queues_in c3.revision) (outputs_in c3.revision) ≡ to
-  core_is =
-      ap (λ (k : Core). revised k (flags (length c3.slots.items) mask) c3.slots.items (queues_in c3.revision) (outputs_in c3.revision)) core_3
-      ∙ revised_is was to (flags (length c3.slots.items) mask) c3.slots.items (queues_in c3.revision) (outputs_in c3.revision) leads
-
-  pub whole : IsCore (revised c3.core (flags (length c3.slots.items) mask) c3.slots.items (queues_in c3.revision) (outputs_in c3.revision))
-  whole = subst IsCore (sym core_is) (aim wanted c0 r)
-
-  pub few_slots : length c3.slots.items ≤ 64
-  few_slots = let few = few_base wanted c0 r in let base = base_rows wanted c0 r in omega (arith, many, few, base)
-
   short_queue : (k : ℕ) → k < length to.rows → length (queue_in to k) ≤ 64
   short_queue k lt =
-      subst (λ (q : List Event). length q ≤ 64) (queue_found to (apart_in to (aim wanted c0 r)) k lt) (queue_short to (aim wanted c0 r).matched (slot_in to k).number (aim wanted c0 r).formed)
+      subst (λ (q : List Event). length q ≤ 64) (queue_found to (apart_in to goal) k lt) (queue_short to goal.matched (slot_in to k).number goal.formed)
 
   pub short_queues : AllByRecursion (λ (x : ℕ × List Event). (x.0 < length c3.slots.items) × (length x.1 ≤ 64)) (queues_in c3.revision)
   short_queues = each_map Queued (λ (x : ℕ × List Event). (x.0 < length c3.slots.items) × (length x.1 ≤ 64)) (λ x h.
@@ -193,49 +204,38 @@ module _ (wanted : Names) (c0 c1 c2 c3 : code.Configs) (r : Reaches wanted c0) (
   pub short_outputs : AllByRecursion (λ (x : Extension). (x.group < 64) × (x.kept + length x.bytes ≤ 65536)) (outputs_in c3.revision)
   short_outputs = each_map (Extends was to) (λ (x : Extension). (x.group < 64) × (x.kept + length x.bytes ≤ 65536)) (λ x e.
       let inside = e.inside in
-      let groups = (own wanted c0 r).formed.outputs in
+      let groups = from.formed.outputs in
       let cut : length (take x.kept (output_of was x.group)) ≡ x.kept = length-take-le x.kept (output_of was x.group) e.kept in
       let both = length-append (take x.kept (output_of was x.group)) x.bytes in
       let all = ap length e.is in
-      let short = output_short to (aim wanted c0 r) x.group in
+      let short = output_short to goal x.group in
       (omega (arith, inside, groups), omega (arith, cut, both, all, short)))
       (outputs_in c3.revision) extended
 
--- what revising asks, and leads to
-pub record MayRevise (core to : Core) (slots : List Slot) (mask : ℕ) (revision : Revision) : Type 0 where
-  pub whole : IsCore (revised core (flags (length slots) mask) slots (queues_in revision) (outputs_in revision))
-  pub same : map identity_of slots ≡ map identity_of (slots_of core)
-  pub few : length slots ≤ 64
-  pub queues : AllByRecursion (λ (x : ℕ × List Event). (x.0 < length slots) × (length x.1 ≤ 64)) (queues_in revision)
-  pub outputs : AllByRecursion (λ (x : Extension). (x.group < 64) × (x.kept + length x.bytes ≤ 65536)) (outputs_in revision)
-  pub is : revised core (flags (length slots) mask) slots (queues_in revision) (outputs_in revision) ≡ to
-
-module _ (wanted : Names) (c0 c1 c2 c3 : code.Configs) (mask : ℕ) (one : (r : Reaches wanted c0) → HasReadSlots r.state.core c0 c1 mask)
-    (two : (r : Reaches wanted c1) → HasReadQueues r.state.core c1 c2) (three : (r : Reaches wanted c2) → HasReadOutputs r.state.core c2 c3) (r : Reaches wanted c0) where
-  pub reaches_1 : Reaches wanted c1
-  reaches_1 = reaches_still wanted c0 c1 r (one r).others (one r).room
-
-  pub reaches_2 : Reaches wanted c2
-  reaches_2 = reaches_still wanted c1 c2 reaches_1 (two reaches_1).others (ap (λ s. map identity_of s.items) (two reaches_1).room)
-
-  pub may_revise : (slots : List Slot) → slots ≡ c3.slots.items → MayRevise c3.core r.state.core slots mask c3.revision
-  may_revise slots e = subst (λ (l : List Slot). MayRevise c3.core r.state.core l mask c3.revision) (sym e) (record {
-    whole = whole wanted c0 c1 c2 c3 r mask (one r) (two reaches_1) (three reaches_2);
-    same = room_is wanted c0 c1 c2 c3 r mask (one r) (two reaches_1) (three reaches_2);
-    few = few_slots wanted c0 c1 c2 c3 r mask (one r) (two reaches_1) (three reaches_2);
-    queues = short_queues wanted c0 c1 c2 c3 r mask (one r) (two reaches_1) (three reaches_2);
-    outputs = short_outputs wanted c0 c1 c2 c3 r mask (one r) (two reaches_1) (three reaches_2);
-    is = core_is wanted c0 c1 c2 c3 r mask (one r) (two reaches_1) (three reaches_2);
-  })
+  pub may_revise : (slots : List Slot) → slots ≡ c3.slots.items → MayRevise c3.core to slots mask c3.revision
+  may_revise slots e =
+      let is =
+      ap (λ (k : Core). revised k (flags (length c3.slots.items) mask) c3.slots.items (queues_in c3.revision) (outputs_in c3.revision)) core_3
+      ∙ revised_is was to (flags (length c3.slots.items) mask) c3.slots.items (queues_in c3.revision) (outputs_in c3.revision) leads in
+      let few = few_base wanted c0 r in
+      let base = base_rows wanted c0 r in
+      subst (λ (l : List Slot). MayRevise c3.core to l mask c3.revision) (sym e) (record {
+        whole = subst IsCore (sym is) goal;
+        same = room ∙ sym r.stands.machine.config.state.fits.same_slots ∙ ap (λ (k : Core). map identity_of (slots_of k)) (sym core_3);
+        few = omega (arith, many, few, base);
+        queues = short_queues;
+        outputs = short_outputs;
+        is = is;
+      })
 
   pub has_put : (slots : List Slot) → slots ≡ c3.slots.items → (core : Core) → core ≡ revised c3.core (flags (length slots) mask) slots (queues_in c3.revision) (outputs_in c3.revision)
-      → HasPutCore r.state.core c0 (record c3 { core = core })
+      → HasPutCore to c0 (record c3 { core = core })
   has_put slots e core is = record {
     is = is ∙ (may_revise slots e).is;
-    room = ap (λ s. map identity_of s.items) ((three reaches_2).room ∙ (two reaches_1).room) ∙ (one r).room;
+    room = ap (λ s. map identity_of s.items) (three.room ∙ two.room) ∙ one.room;
     others = ap (λ (c : code.Configs). record c { core = core; slots = c3.slots; revision = c3.revision; changed = c3.changed })
-        ((three reaches_2).others ∙ ap (λ (c : code.Configs). record c { slots = c3.slots; revision = c3.revision; changed = c3.changed }) (two reaches_1).others
-        ∙ ap (λ (c : code.Configs). record c { slots = c3.slots; revision = c3.revision; changed = c3.changed }) (one r).others);
+        (three.others ∙ ap (λ (c : code.Configs). record c { slots = c3.slots; revision = c3.revision; changed = c3.changed })
+        (two.others ∙ ap (λ (c : code.Configs). record c { slots = c2.slots; revision = c2.revision; changed = c2.changed }) one.others));
   }
 
 -- 4. The memory, after the core.

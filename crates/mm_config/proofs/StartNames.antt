@@ -1,8 +1,7 @@
 -- Names at the start.
-use Rattle.std.proofs.Common.{◌≡◌, ◌⊎◌, inl, inr, ℕ, zero, suc, ◌+◌, ◌<◌, ◌≤◌, ◌^◌, List, [], ◌∷◌, ◌++◌, length, take, slice_get, slice_index_or, Option, Some, None, refl, sym, ap, ◌∙◌, subst, arith}
-use Rattle.std.proofs.lemmas.{Bool.{cases_eq, cases_lt}, Option.{slice_get-get_or, slice_get_past}}
-use Rattle.mm_pairs.specs.Trees.{IsTree}
-use Rattle.mm_config.specs.Naming.{AreLeaves, IsOrNone, leaf_at}
+use Rattle.std.proofs.Common.{◌⊎◌, inl, inr, ℕ, ◌<◌, ◌≤◌, ◌^◌, List, [], length, slice_get, slice_index_or, refl, sym, subst, arith}
+use Rattle.std.proofs.lemmas.{Bool.{cases_lt}, Option.{slice_get-get_or, slice_get_past}}
+use Rattle.mm_config.specs.Naming.{AreLeaves, IsOrNone}
 use Rattle.mm_config.proofs.PageTrees.{none_tree, none_at}
 
 -- nothing has the leaves of the name 0

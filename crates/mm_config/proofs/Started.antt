@@ -1,11 +1,11 @@
 -- A machine at its start, of which all is noted.
-use Rattle.std.proofs.Common.{◌≡◌, ◌⊎◌, inl, inr, Vec, Global, ℕ, ◌+◌, ◌<◌, ◌≤◌, ◌^◌, Bool, List, [], ◌∷◌, ◌++◌, map, length, replicate, slice_get, slice_index_or, Option, Some, None, refl, sym, ap, ◌∙◌, subst, arith}
+use Rattle.std.proofs.Common.{◌≡◌, ◌⊎◌, inl, inr, Vec, Global, ℕ, ◌<◌, ◌≤◌, ◌^◌, Bool, List, [], ◌∷◌, map, length, replicate, slice_get, slice_index_or, Option, Some, refl, sym, ap, ◌∙◌, subst, arith}
 use Rattle.std.proofs.Math.Seq.{take-length}
 use Rattle.std.proofs.lemmas.{Bool.cases_lt, List.{length-map, length-replicate, get_or-map}, Option.{slice_get-get_or, slice_get_past}}
-use Rattle.std.specs.{Prelude.zip, List.{AllByRecursion, AllZip, Sorted.IsStrictlyIncreasing}, Ordering.nat_cmp, FinMap.find}
+use Rattle.std.specs.{Prelude.zip, List.{AllByRecursion, AllZip}, Ordering.nat_cmp, FinMap.find}
 use Rattle.mm_word.specs.declared.word.Cell.{Cell}
-use Rattle.mm_model.specs.{Slot.Slot, Memory.{Memory, page_at}, Image.{Image, slot_limit, start}, State.{ThreadRow, Core, State}}
-use Rattle.mm_model.specs.{Spelling.{numbers_of, IsFresh, IsImage}, Fits.{slots_of, identity_of, IsCore, IsOfVersion}}
+use Rattle.mm_model.specs.{Slot.Slot, Image.{Image, slot_limit, start}, State.{ThreadRow, Core, State}}
+use Rattle.mm_model.specs.{Spelling.{IsFresh, IsImage}, Fits.{slots_of, identity_of, IsCore, IsOfVersion}}
 use Rattle.mm_model.proofs.{CoreRows.{each_map, slot_limit-few}, Fitted.core_of, Starts.{start_slots, nothing_out}}
 use Rattle.mm_pairs.specs.Trees.{IsTree}
 use Rattle.mm_thread.specs.SlotIndices.{no_slot, no_row, row_alone, slot_in}
@@ -13,7 +13,7 @@ use Rattle.mm_thread.proofs.Fresh.{each_nothing}
 use Rattle.mm_config.specs.declared.configs.Configs as code
 use Rattle.mm_config.specs.declared.configs.Looked.{Looked, TheVariants.{Known, New, Full}}
 use Rattle.mm_config.specs.declared.{store.Store.Store, names.Names.Names}
-use Rattle.mm_config.specs.{Configurations.{uncounted_row, uncounted, configuration}, Machines.{Configs, Keeps}, Places.page_place, States.IsStateOf}
+use Rattle.mm_config.specs.{Configurations.{uncounted_row, uncounted, configuration}, Machines.{Configs, Keeps}, Places.page_place}
 use Rattle.mm_config.specs.Naming.{AreNamesOf, AreMemoryNames, AreLeaves, IsOrNone, IsRest, IsSlotName, IsQueueName, IsOutputName, leaf_at}
 use Rattle.mm_config.specs.{Noting.{IsKeptStill, HasOtherPages, mapped_pages}, Keeping.{Stands, IsConfigurationOf, IsKeyOf}, Turning.{HasStarted, HasTrees, IsSlotNamed, NotesSlots}}
 use Rattle.mm_config.proofs.{NextState.bare_config, NotedTurn.{zip_get, zip_long, slots_at, slots_long}, States.start_state_of, StartNames.zero_leaves, Noted.{twice, alike}, PageTrees.{none_tree, none_at}}
@@ -74,6 +74,29 @@ unfolding start
 core_made i made versioned core slots version split rows same outputs v s is_version is_split =
     s ∙ ap (λ (k : Core). record k { split = split }) v
     ∙ λ j. record { rows = (rows ∙ ap (λ (l : List Slot). map row_alone l) same) j; outputs = outputs j; version = is_version j; split = is_split j }
+
+-- the parts of a machine that begins
+pub begins : (i : Image) (c : code.Configs) → IsImage i → c.base.items ≡ i.slots → c.slots.items ≡ i.slots → c.depth ≤ 6 → length i.slots ≤ 2 ^ c.depth → c.core ≡ (start i).core
+    → c.mem.memory ≡ i.memory → c.mem.uses ≡ 0 → c.store ≡ record { pairs = []; outputs = []; lists = []; cells = []; pages = [] }
+    → c.names ≡ record { slots = 0; queues = 0; outputs = 0; height = 0; pages = 0 } → c.kept.keys ≡ [] → HasStarted i c
+unfolding start
+begins i c image base room deep wide core memory uses store names kept = record {
+  image = image;
+  base = base;
+  room = room;
+  deep = deep;
+  wide = wide;
+  core = core;
+  memory = memory;
+  uses = uses;
+  pairs = ap (λ (k : Store). k.pairs) store;
+  outputs = ap (λ (k : Store). k.outputs) store;
+  lists = ap (λ (k : Store). k.lists) store;
+  cells = ap (λ (k : Store). k.cells) store;
+  pages = ap (λ (k : Store). k.pages) store;
+  names = names;
+  kept = kept;
+}
 
 -- 2. All names.
 
@@ -176,7 +199,7 @@ module _ (i : Image) (old : code.Configs) (h : HasStarted i old) where
       pub started : (room : Vec ℕ Global) (pairs : List (ℕ × ℕ)) (rest : ℕ) (c4 : code.Configs) → c4 ≡ record c1 { store = record k2 { pairs = pairs }; names = n2; mapped = room; rest = rest }
           → room.items ≡ mapped_pages c1.mem.memory → Rattle.mm_pairs.specs.Named.HasGrown k2.pairs pairs → IsRest pairs n2 rest
           → Stands i (record { kept = []; machine = configuration (start i) }) c4
-      unfolding configuration
+      unfolding configuration start
       started room pairs rest c4 is listed grown is_rest =
           subst (Stands i (record { kept = []; machine = configuration (start i) })) (sym is) (record {
             image = h.image;
@@ -215,7 +238,6 @@ module _ (i : Image) (old : code.Configs) (h : HasStarted i old) where
           names_2 = other ∙ ap (λ (m : Names). record m { height = n2.height; pages = n2.pages }) names_1
 
           names : AreNamesOf i.slots c1.depth (record k2 { pairs = pairs }) (configuration (start i)) n2
-          unfolding start configuration
           names = subst (λ (core : Core). AreNamesOf i.slots c1.depth (record k2 { pairs = pairs }) (record { core = core; memory = i.memory; cycles = 0 }) n2) (sym bare_start) (record {
             slots = subst (λ d. AreLeaves (λ (x : Slot × Slot) name. IsSlotName (record k2 { pairs = pairs }) x.0 x.1 name) (zip i.slots (slots_of begun)) pairs d n2.slots) (sym depth)
                 (subst (AreLeaves (λ (x : Slot × Slot) name. IsSlotName (record k2 { pairs = pairs }) x.0 x.1 name) (zip i.slots (slots_of begun)) pairs old.depth) (sym (ap (λ (m : Names). m.slots) names_2))

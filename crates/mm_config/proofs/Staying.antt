@@ -1,9 +1,8 @@
 -- Names stay while what is kept grows.
-use Rattle.std.proofs.Common.{◌≡◌, inl, inr, ℕ, zero, suc, ◌+◌, ◌≤◌, List, [], ◌∷◌, length, reverse, slice_get, Option, Some, None, refl, sym, ap, ◌∙◌, subst, arith}
+use Rattle.std.proofs.Common.{◌≡◌, inl, inr, ℕ, zero, suc, ◌+◌, List, [], ◌∷◌, reverse, slice_get, Option, Some, None, sym, ap, ◌∙◌, subst, arith}
 use Rattle.std.specs.{Prelude.zip, List.AllZip}
-use Rattle.mm_word.specs.declared.word.Cell.{Cell}
 use Rattle.mm_model.specs.{declared.event.Event.Event, Slot.Slot, Memory.{Memory, page_at}, State.{ThreadRow, State}, Fits.slots_of}
-use Rattle.mm_pairs.specs.{Named.{HasGrown, IsNameOf}, Trees.{pair_of, IsTree}}
+use Rattle.mm_pairs.specs.{Named.{HasGrown}, Trees.{IsTree}}
 use Rattle.mm_pairs.proofs.Names.{no_shorter, name_stays, named_stays, tree_stays}
 use Rattle.mm_config.specs.declared.{store.Store.Store, names.Names.Names}
 use Rattle.mm_config.specs.{Forms.{slot_form, queue_form}, Places.page_place, Noting.IsKeptStill, Keeping.IsKeyOf}

@@ -1,8 +1,8 @@
 -- Lists that are read one element after the other.
 use Rattle.std.proofs.Common.{◌≡◌, ℕ, suc, take, set, length, ◌+◌, ◌-◌, ◌/◌, ◌%◌, ◌<◌, List, [], ◌∷◌, ◌++◌, refl, sym}
-use Rattle.std.proofs.{Common.{ap, ◌∙◌, arith, append_assoc, ◌≤◌}, lemmas.List.take_more_set}
+use Rattle.std.proofs.{Common.{ap, ◌∙◌, arith, append_assoc}, lemmas.List.take_more_set}
 use Rattle.std.specs.Prelude.{◌==◌}
-use Rattle.mm_word.specs.{declared.word.{Word.Word, Cell.Cell}, Pointer.Pointer}
+use Rattle.mm_word.specs.{declared.word.{Word.Word}, Pointer.Pointer}
 use Rattle.mm_model.specs.{declared.slot.{Pending.Pending, SlotState.SlotState}, Slot.Slot, Flags.flags}
 use Rattle.mm_config.specs.Forms.{first_number, behind, word_from, words_from, register_flags, loads_from, few_loads}
 use Rattle.mm_config.specs.Forms.{ip_of, state_at, slot_from}

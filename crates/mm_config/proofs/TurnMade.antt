@@ -1,7 +1,7 @@
 -- A machine that makes a turn.
-use Rattle.std.proofs.Common.{◌≡◌, ℕ, ◌<◌, ◌^◌, List, length, map, refl, sym, ap, ◌∙◌, subst, arith}
+use Rattle.std.proofs.Common.{◌≡◌, ℕ, ◌<◌, ◌^◌, refl, sym, ap, ◌∙◌, subst, arith}
 use Rattle.std.specs.List.{AllByRecursion}
-use Rattle.mm_model.specs.{declared.step.Step.Step, Slot.Slot, Memory.Memory, Image.Image, State.{Core, State}, Turn.{Turned, turn}, Run.turn_of, Fits.slots_of}
+use Rattle.mm_model.specs.{declared.step.Step.Step, Slot.Slot, Image.Image, State.{Core}, Turn.{Turned, turn}, Run.turn_of, Fits.slots_of}
 use Rattle.mm_model.proofs.CoreRows.{each_map}
 use Rattle.mm_mem.specs.Plain.{Plain}
 use Rattle.mm_config.specs.declared.configs.Configs as code
@@ -19,7 +19,7 @@ module _ (i : Image) (v : Configs) (was : code.Configs) (h : Stands i v was) whe
   pub own_turn : (item : ℕ) → turn was.core was.mem.memory item ≡ turn_of v.machine item
   own_turn item = λ j. turn (h.machine.core j) (h.machine.memory j) item
 
-  pub has_turned : (item : ℕ) (b : Before) (step : Step) (core : Core) (mem : Plain) → item < 256 → IsBefore was item b → core ≡ (turn was.core was.mem.memory item).core
+  abbrev pub has_turned : (item : ℕ) (b : Before) (step : Step) (core : Core) (mem : Plain) → item < 256 → IsBefore was item b → core ≡ (turn was.core was.mem.memory item).core
       → mem.memory ≡ (turn was.core was.mem.memory item).memory → mem.uses ≡ 0 → step ≡ (turn was.core was.mem.memory item).step → HasTurned b step (record was { core = core; mem = mem })
   has_turned item b step core mem byte before core_is memory_is uses step_is = record {
     image = i;

@@ -1,13 +1,13 @@
 -- What a turn leaves by the indices of slots.
-use Rattle.std.proofs.Common.{◌≡◌, ◌⊎◌, inl, inr, ℕ, ◌<◌, ◌≤◌, ◌++◌, true, false, List, [], ◌∷◌, map, length, slice_get, slice_index_or, Option, Some, None, refl, sym, ap, ◌∙◌, subst, arith}
-use Rattle.std.proofs.lemmas.{Option.{slice_get-get_or}, List.{length-map, get_or-map, get_or_default}}
-use Rattle.std.specs.Prelude.{IsBitSet, IsSomeAnd, ◌↔◌, zip}
+use Rattle.std.proofs.Common.{◌≡◌, ◌⊎◌, inl, inr, ℕ, ◌<◌, true, false, List, [], map, length, slice_index_or, Option, Some, None, sym, ap, ◌∙◌, subst, arith}
+use Rattle.std.proofs.lemmas.{List.{length-map, get_or-map, get_or_default}}
+use Rattle.std.specs.Prelude.{IsBitSet, IsSomeAnd, ◌↔◌}
 use Rattle.mm_model.specs.declared.{slot.SlotState.{TheVariants.Running}, step.Tick.{Tick}}
-use Rattle.mm_model.specs.{Slot.Slot, Image.Image, State.{ThreadRow, Core, State, slot_of, slot_at, queue_at}, Run.turn_of, Turn.{Turned, is_running}}
-use Rattle.mm_model.specs.{Fits.{slots_of, identity_of, IsCore}, Spelling.IsImage}
-use Rattle.mm_thread.specs.SlotIndices.{no_slot, no_row, slot_in, queue_in, row_at}
+use Rattle.mm_model.specs.{Slot.Slot, State.{ThreadRow, Core, slot_of, slot_at, queue_at}, Turn.{is_running}}
+use Rattle.mm_model.specs.{Fits.{slots_of, identity_of, IsCore}}
+use Rattle.mm_thread.specs.SlotIndices.{no_slot, no_row, slot_in, queue_in}
 use Rattle.mm_thread.proofs.{Index.{slot_found, queue_found, row_in-none}, RowIndex.apart_in, Revised.{slots_many, same_at}}
-use Rattle.mm_laws.specs.Frames.{LeavesTheRest, SlotLeft, QueueLeft}
+use Rattle.mm_laws.specs.Frames.{SlotLeft, QueueLeft}
 use Rattle.mm_config.specs.Turning.{IsServedBy, IsFaultHandler}
 
 -- the slot of a list at an index has the identity of that of a core

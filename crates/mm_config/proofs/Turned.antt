@@ -1,6 +1,6 @@
 -- What a turn leaves of a configuration.
-use Rattle.std.proofs.Common.{◌≡◌, inl, inr, ℕ, ◌<◌, List, [], ◌∷◌, map, length, get_or, set, Option, Some, None, refl, sym, ap, ◌∙◌}
-use Rattle.std.proofs.Common.{subst, arith}
+use Rattle.std.proofs.Common.{◌≡◌, inl, inr, ℕ, ◌<◌, List, [], ◌∷◌, map, length, get_or, set, Option, Some, None, sym, ap, ◌∙◌}
+use Rattle.std.proofs.Common.{arith}
 use Rattle.std.proofs.lemmas.{Bool.cases_eq, List.{ext_get_or, get_or-map, get_or-set_same, get_or-set_other, length-map, length-set}}
 use Rattle.std.specs.List.{AllByRecursion}
 use Rattle.mm_model.specs.{Slot.Slot, State.{ThreadRow, Core, State, slot_at}, Fits.{slots_of, IsCore}, Run.{turn_of, after}, Turn.Turned}
@@ -8,7 +8,7 @@ use Rattle.mm_model.proofs.CoreRows.{slot_has}
 use Rattle.mm_thread.specs.SlotIndices.{no_row, row_at, slot_in, with_slot}
 use Rattle.mm_thread.proofs.{Index.slot_found, RowIndex.apart_in}
 use Rattle.mm_laws.specs.Frames.{LeavesTheRest, SlotLeft}
-use Rattle.mm_config.specs.Configurations.{uncounted_slot, uncounted_row, uncounted, configuration}
+use Rattle.mm_config.specs.Configurations.{uncounted_row, uncounted, configuration}
 
 -- 1. Slots without counts.
 

@@ -1,6 +1,6 @@
 -- A list of names on its way to another, change by change.
-use Rattle.std.proofs.Common.{◌≡◌, ◌≢◌, ◌⊎◌, inl, inr, ℕ, zero, suc, ◌+◌, ◌<◌, ◌≤◌, Bool, true, false, nat_eq, if◌then◌else◌, List, [], ◌∷◌, length, slice_get, slice_index_or, slice_set, Some}
-use Rattle.std.proofs.Common.{refl, sym, ap, ◌∙◌, subst, arith, eqb-true, eq-eqb}
+use Rattle.std.proofs.Common.{◌≡◌, ◌≢◌, ◌⊎◌, inl, inr, ℕ, zero, suc, ◌+◌, ◌<◌, Bool, true, false, nat_eq, if◌then◌else◌, List, [], ◌∷◌, length, slice_get, slice_index_or, slice_set, Some}
+use Rattle.std.proofs.Common.{refl, sym, ap, ◌∙◌, arith, eqb-true, eq-eqb}
 use Rattle.std.proofs.lemmas.{Bool.{cases_eq, cases_lt}, List.{get_or-set_same, get_or-set_other, get_or_past, length-set}}
 use Rattle.mm_pairs.specs.Trees.{changed}
 use Rattle.mm_config.specs.Putting.{IsOnWay}
@@ -120,20 +120,20 @@ module _ (was names : List ℕ) (long : length was ≡ length names) (D E : ℕ 
     ];
     done = λ j f g d. elim (cases_eq f.0 e.0) [
       | inl same ↦
-        let one = change_once 0 was names long j n f e g got same in
-        let two : slice_get (changed 0 was names) n ≡ Some f = ap (slice_get (changed 0 was names)) (sym one) ∙ g in
-        let alike : e ≡ f = cc in
-        ap (λ i. slice_index_or (slice_set now e.0 e.1) i 0) same ∙ here ∙ ap (λ (p : ℕ × ℕ). p.1) alike
+          let one = change_once 0 was names long j n f e g got same in
+          let two : slice_get (changed 0 was names) n ≡ Some f = ap (slice_get (changed 0 was names)) (sym one) ∙ g in
+          let alike : e ≡ f = cc in
+          ap (λ i. slice_index_or (slice_set now e.0 e.1) i 0) same ∙ here ∙ ap (λ (p : ℕ × ℕ). p.1) alike
       | inr other ↦ get_or-set_other now e.0 f.0 e.1 0 other ∙ way.done j f g (elim ((with_it j f g).0 d) [
         | inl before ↦ before
         | inr last ↦
-          let two : slice_get (changed 0 was names) n ≡ Some f = ap (slice_get (changed 0 was names)) (sym last) ∙ g in
-          let alike : e ≡ f = cc in absurd (other (ap (λ (p : ℕ × ℕ). p.0) (sym alike)))
+            let two : slice_get (changed 0 was names) n ≡ Some f = ap (slice_get (changed 0 was names)) (sym last) ∙ g in
+            let alike : e ≡ f = cc in absurd (other (ap (λ (p : ℕ × ℕ). p.0) (sym alike)))
       ])
     ];
     rest = λ j f g d.
-    get_or-set_other now e.0 f.0 e.1 0 (λ same. d ((with_it j f g).1 (inr (change_once 0 was names long j n f e g got same))))
-    ∙ way.rest j f g (λ before. d ((with_it j f g).1 (inl before)));
+        get_or-set_other now e.0 f.0 e.1 0 (λ same. d ((with_it j f g).1 (inr (change_once 0 was names long j n f e g got same))))
+        ∙ way.rest j f g (λ before. d ((with_it j f g).1 (inl before)));
   }
     where
       change : IsChange 0 was names e
@@ -155,9 +155,9 @@ arrived was names D now long way all p = elim (cases_lt p (length names)) [
   | inl low ↦ elim (cases_eq (slice_index_or was p 0) (slice_index_or names p 0)) [
     | inl same ↦ elim (way.either p) [ inl old ↦ old ∙ same | inr new ↦ new ]
     | inr other ↦
-      let c = change_at 0 was names long p low other in
-      let none : 0 + p ≡ p = omega arith in
-      ap (λ i. slice_index_or now i 0) (sym none) ∙ way.done c.0 (0 + p, slice_index_or names p 0) c.1 (all c.0 (0 + p, slice_index_or names p 0) c.1)
+        let c = change_at 0 was names long p low other in
+        let none : 0 + p ≡ p = omega arith in
+        ap (λ i. slice_index_or now i 0) (sym none) ∙ way.done c.0 (0 + p, slice_index_or names p 0) c.1 (all c.0 (0 + p, slice_index_or names p 0) c.1)
   ]
   | inr high ↦ let l = way.long in get_or_past now p 0 (omega (arith, l, long, high)) ∙ sym (get_or_past names p 0 high)
 ]

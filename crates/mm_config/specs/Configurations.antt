@@ -1,5 +1,5 @@
 -- Configurations: states without their counts.
-use Rattle.std.specs.Prelude.{ℕ, map}
+use Rattle.std.specs.Prelude.{map}
 use Rattle.mm_model.specs.{Slot.Slot, State.{ThreadRow, Core, State}}
 
 -- a slot with no count of turns

@@ -1,7 +1,7 @@
 -- What a machine with its configurations has.
-use Rattle.std.specs.Prelude.{◌≡◌, ℕ, ◌^◌, ◌<◌, ◌≤◌, List, map, length, zip}
+use Rattle.std.specs.Prelude.{◌≡◌, ℕ, ◌^◌, ◌<◌, ◌≤◌, List, map, length}
 use Rattle.std.specs.List.{AllByRecursion, AllZip}
-use Rattle.mm_model.specs.{Image.Image, Slot.Slot, Spelling.IsImage, Fits.{slots_of, identity_of}, State.State}
+use Rattle.mm_model.specs.{Image.Image, Slot.Slot, Spelling.IsImage, Fits.{identity_of}, State.State}
 use Rattle.mm_config.specs.declared.configs.Configs as code
 use Rattle.mm_config.specs.declared.{names.Names.Names, store.Store.Store}
 use Rattle.mm_config.specs.{Configurations.configuration, Machines.Configs, Naming.{AreNamesOf, IsRest}, States.IsStateOf}

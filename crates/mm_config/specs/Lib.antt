@@ -9,5 +9,6 @@ pub mod Noting
 pub mod Putting
 pub mod Machines
 pub mod Keeping
+pub mod Reads
 pub mod Reaching
 pub mod Turning

@@ -6,7 +6,7 @@ use Rattle.mm_model.specs.declared.{slot.SlotState.TheVariants.Running, step.{St
 use Rattle.mm_word.specs.Access.{AccessValue}
 use Rattle.mm_word.specs.declared.word.Cell.{Cell}
 use Rattle.mm_model.specs.Counted.{writes}
-use Rattle.mm_model.specs.{Image.{Image, start}, Spelling.IsImage, Memory.{Memory, IsPaged, put_cell}, Slot.Slot, State.{Core, slot_at, output_of}, Run.turn_of, Fits.{slots_of, identity_of}}
+use Rattle.mm_model.specs.{Image.{Image, start}, Spelling.IsImage, Memory.{Memory, IsPaged, put_cell}, Slot.Slot, State.{slot_at, output_of}, Run.turn_of, Fits.{slots_of, identity_of}}
 use Rattle.mm_laws.specs.Frames.{MemoryLeft}
 use Rattle.mm_thread.specs.SlotIndices.{no_slot, slot_in, queue_in}
 use Rattle.mm_pairs.specs.Trees.{IsTree}
@@ -142,7 +142,7 @@ abbrev pub IsSameButWord : Option AccessValue → Memory → Memory → Type 0
 IsSameButWord touched m now =
     (now ≡ m) ⊎ ((a : AccessValue) × (c : Cell) × (touched ≡ Some a) × (writes a.kind ≡ true) × (now ≡ put_cell m a.addr c))
 
--- the page that came or went is noted, and no word that an access wrote
+-- a page that came or went is noted; a word that an access wrote is not yet
 pub record NotesPage (touched : Option AccessValue) (old new : code.Configs) : Type 0 where
   pub still : IsKeptStill old.store new.store
   pub memory : Memory

@@ -10,6 +10,7 @@ ghost use Rattle.mm_config.specs.Configurations.{configuration};
 ghost use Rattle.mm_config.specs.Keeping.{Stands};
 ghost use Rattle.mm_config.specs.Machines.{Configs as ConfigsValue, Keeps, AreApart};
 
+use crate::changes::mask_of;
 use crate::names::Names;
 use crate::store::Store;
 use indexmap::IndexSet;
@@ -182,10 +183,6 @@ impl Configs {
         self.store
             .pairs
             .list_changed(slots, others, self.depth, 0, &mut changed)?;
-        let mut mask = 0;
-        for (at, _) in changed.as_slice() {
-            mask |= 1 << *at;
-        }
-        Ok(mask)
+        Ok(mask_of(&changed))
     }
 }

@@ -16,6 +16,7 @@
 #![tactic(auto)]
 
 mod cells;
+mod changes;
 mod configs;
 mod events;
 mod laws;

@@ -77,9 +77,7 @@ pub(crate) fn note_cell(
     let page = page_of(store, names, number);
     let (_, cells) = store.pairs.parts(page);
     let name = store.cells.name(&cell)?;
-    let cells = store
-        .pairs
-        .with_leaf(cells, DEPTH, word % 4096 / 8, name)?;
+    let cells = store.pairs.with_leaf(cells, DEPTH, word % 4096 / 8, name)?;
     let page = store.pairs.join(1, cells)?;
     put_page(store, names, number, page)
 }

@@ -68,13 +68,20 @@ fn lower(pairs: &Pairs, names: &mut Names)
 
 /// Puts a name for the page of a number. A page that is not mapped has the name 0, and any other that of the pair of 1 and
 /// of its cells.
-pub(crate) fn put_page(store: &mut Store, names: &mut Names, number: u64, page: u32) -> Result<(), AllocError>
+pub(crate) fn put_page(
+    store: &mut Store,
+    names: &mut Names,
+    number: u64,
+    page: u32,
+) -> Result<(), AllocError>
     requires { IsTreeOfPages store.old names.old }
     ensures { OnOk result (PutsPage store.old names.old number page store.new names.new) }
 {
     let place = u64::from(store.pages.place(number)?);
     deepen(&mut store.pairs, names, place)?;
-    names.pages = store.pairs.with_leaf(names.pages, names.height, place, page)?;
+    names.pages = store
+        .pairs
+        .with_leaf(names.pages, names.height, place, page)?;
     lower(&store.pairs, names);
     Ok(())
 }

@@ -1,22 +1,16 @@
 //! Putting the machine to a configuration: the parts whose names differ are read.
 
-ghost use Rattle.std.specs.Prelude.{◌≡◌, ◌≤◌, [], IfOk, OnOk, length};
-ghost use Rattle.mm_config.specs.Forms.{slot_from};
+ghost use Rattle.std.specs.Prelude.{◌≡◌, IfOk, OnOk};
 ghost use Rattle.mm_config.specs.Noting.{mapped_pages};
 ghost use Rattle.mm_config.specs.Keeping.{Stands};
 ghost use Rattle.mm_config.specs.Reaching.{HasConfiguration, Reaches, HasPutCore, HasReadSlots, HasReadQueues, HasReadOutputs};
-ghost use Rattle.mm_pairs.specs.Named.{named};
 
+use crate::changes::{mask_of, take_outputs, take_queues, take_slots};
 use crate::configs::Configs;
-use crate::events::take_events;
 use crate::names::Names;
 use crate::note::GROUPS;
 use crate::put_memory::put_memory;
-use crate::reader::Reader;
-use crate::slot_form::take_slot;
-use crate::store::Store;
 use mm_mem::Inspect;
-use mm_model::Slot;
 use std::alloc::AllocError;
 
 impl Configs {
@@ -72,13 +66,13 @@ impl Configs {
             0,
             &mut self.changed,
         )?;
-        let mut mask = 0;
-        for (at, name) in self.changed.as_slice() {
-            let at = *at as usize;
-            read_slot(&self.store, *name, &self.base[at], &mut self.slots[at]);
-            mask |= 1 << at;
-        }
-        Ok(mask)
+        take_slots(
+            &self.store.lists,
+            &self.base,
+            &self.changed,
+            &mut self.slots,
+        );
+        Ok(mask_of(&self.changed))
     }
 
     /// Reads the queues that change.
@@ -86,7 +80,6 @@ impl Configs {
         requires { Reaches wanted.now self.old }
         ensures { OnOk result ((r : Reaches wanted.now self.old) → HasReadQueues r.state.core self.old self.new) }
     {
-        self.revision.queues.clear();
         self.changed.clear();
         self.store.pairs.list_changed(
             self.names.queues,
@@ -95,12 +88,12 @@ impl Configs {
             0,
             &mut self.changed,
         )?;
-        for (at, name) in self.changed.as_slice() {
-            let mut events = Vec::new(self.alloc);
-            take_events(&mut Reader::new(self.store.lists.get(*name)), &mut events)?;
-            self.revision.queues.push((*at as usize, events))?;
-        }
-        Ok(())
+        take_queues(
+            self.alloc,
+            &self.store.lists,
+            &self.changed,
+            &mut self.revision.queues,
+        )
     }
 
     /// Reads the outputs that change.
@@ -108,7 +101,6 @@ impl Configs {
         requires { Reaches wanted.now self.old }
         ensures { OnOk result ((r : Reaches wanted.now self.old) → HasReadOutputs r.state.core self.old self.new) }
     {
-        self.revision.outputs.clear();
         self.changed.clear();
         self.store.pairs.list_changed(
             self.names.outputs,
@@ -117,13 +109,14 @@ impl Configs {
             0,
             &mut self.changed,
         )?;
-        for (group, name) in self.changed.as_slice() {
-            let was = self.store.pairs.leaf(self.names.outputs, GROUPS, *group);
-            let len = self.core.output(*group as u8).len();
-            let (kept, bytes) = self.store.outputs.changed(self.alloc, was, *name, len)?;
-            self.revision.outputs.push((*group as u8, kept, bytes))?;
-        }
-        Ok(())
+        take_outputs(
+            self.alloc,
+            &self.store,
+            &self.core,
+            self.names.outputs,
+            &self.changed,
+            &mut self.revision.outputs,
+        )
     }
 
     /// Lists the mapped pages anew.
@@ -137,12 +130,4 @@ impl Configs {
         }
         Ok(())
     }
-}
-
-/// Reads the slot of a name.
-fn read_slot(store: &Store, name: u32, base: &Slot, slot: &mut Slot)
-    requires { name ≤ length store.now.lists }
-    ensures { slot.new ≡ slot_from base.now (named [] store.now.lists name) }
-{
-    take_slot(&mut Reader::new(store.lists.get(name)), base, slot);
 }

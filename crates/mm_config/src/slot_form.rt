@@ -293,7 +293,14 @@ pub(crate) fn take_slot(reader: &mut Reader<'_>, base: &Slot, slot: &mut Slot)
     let head = reader.next();
     let masks = reader.next();
     let ip = reader.next();
-    take_words(reader, masks % 65536, masks / 65536, &base.regs, 0, &mut slot.regs);
+    take_words(
+        reader,
+        masks % 65536,
+        masks / 65536,
+        &base.regs,
+        0,
+        &mut slot.regs,
+    );
     take_loads(reader, few_loads(head / 64 % 32), &mut slot.pending);
     hold_words(&slot.regs);
     hold_loads(slot.pending.as_slice());

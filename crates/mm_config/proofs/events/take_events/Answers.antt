@@ -1,4 +1,4 @@
-use Rattle.std.proofs.Common.{◌<◌, ◌≤◌, ◌++◌, ap, sym, ◌∙◌, subst, length, arith}
+use Rattle.std.proofs.Common.{◌<◌, ◌++◌, ap, sym, ◌∙◌, subst, length, arith}
 use Rattle.std.proofs.lemmas.List.{append-nil}
 use Rattle.mm_config.{specs.Forms.queue_from, proofs.EventForms.{events_more, queue_ends, fewer}}
 use Rattle.mm_config.proofs.events.take_events.Goals as goal

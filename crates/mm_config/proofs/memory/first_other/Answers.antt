@@ -1,4 +1,4 @@
-use Rattle.std.proofs.Common.{◌≡◌, ◌<◌, ◌≤◌, ◌∙◌, sym, length, arith}
+use Rattle.std.proofs.Common.{◌≡◌, ◌∙◌, arith}
 use Rattle.std.proofs.lemmas.List.{length-map}
 use Rattle.mm_config.{specs.Noting.mapped_pages, proofs.PageLists.{other_here, same_here, all_walked}}
 use Rattle.mm_config.proofs.memory.first_other.Goals as goal

@@ -1,4 +1,4 @@
-use Rattle.std.proofs.Common.{◌≡◌, ◌/◌, ◌%◌, Some, None, refl, sym, ap, ◌∙◌, subst, slice_set}
+use Rattle.std.proofs.Common.{◌≡◌, None, refl, sym, ◌∙◌, subst, slice_set}
 use Rattle.std.proofs.lemmas.Result.{on_ok_weaker}
 use Rattle.mm_model.specs.Memory.{cell_at, page_of, place_of}
 use Rattle.mm_pairs.{specs.Trees.{leaves, IsTree, HasLeaves}, proofs.Names.grown_twice}
@@ -53,7 +53,7 @@ returns-clause-names c =
     let made = subst (λ t. HasLeaves q1 9 tree (slice_set (leaves k.pairs 9 t) (place_of word) name)) w.same c.in_ok-cells.ensures.leaves in
     on_ok_weaker c.put_page.result
     (λ put. put_noted k k2 k4 more m now n0 c.put_page.new.names (page_of word) page known.2 put (only_others m now word known.1.0 known.1.1)
-      (subst (λ o. IsOrNone (IsPageName k4) o page) (sym w.now_is)
-        (page_set k k4 q1 q2 kept c.in_ok-cells.ensures.grown c.in_ok-page.ensures.grown c.in_ok-name.ensures.grown put.still w.cells c.page_of-page.result (place_of word) name tree page cell w.was
-          c.in_ok-name.ensures.name made c.in_ok-page.ensures.name)))
+    (subst (λ o. IsOrNone (IsPageName k4) o page) (sym w.now_is)
+    (page_set k k4 q1 q2 kept c.in_ok-cells.ensures.grown c.in_ok-page.ensures.grown c.in_ok-name.ensures.grown put.still w.cells c.page_of-page.result (place_of word) name tree page cell w.was
+    c.in_ok-name.ensures.name made c.in_ok-page.ensures.name)))
     c.put_page.ensures

@@ -1,7 +1,7 @@
-use Rattle.std.proofs.Common.{◌≡◌, ◌<◌, ◌≤◌, refl, sym, ap, ◌∙◌, insert, length, nat_eq, arith}
+use Rattle.std.proofs.Common.{◌≡◌, ap, ◌∙◌, insert, length, nat_eq, arith}
 use Rattle.std.proofs.lemmas.{List.Sums.common_prefix_len-le, Option.get_or_from_slice_get, Result.on_ok_weaker}
 use Rattle.mm_config.specs.{declared.store.Store.Store, Noting.mapped_pages}
-use Rattle.mm_config.proofs.{Noted.{CameAt, WentAt, came_at, went_at, come_noted, gone_noted, tree_more}, PageCells.more_pairs}
+use Rattle.mm_config.proofs.{Noted.{CameAt, came_at, went_at, come_noted, gone_noted, tree_more}, PageCells.more_pairs}
 use Rattle.mm_config.proofs.memory.note_page.Goals as goal
 
 come : (c : goal.Then-pages-len) → CameAt c.requires.known.0 c.args.mem.now.memory c.args.mapped.now.items c.first_other-at.result
@@ -69,7 +69,7 @@ returns-in_ok-page-clause-names c =
     let same : c.page_at-number.result ≡ new.page = cc in
     on_ok_weaker c.put_page.result
     (come_noted c.args.store.now c.put_page.new.store c.join.new.self known.0 now c.args.names.now c.put_page.new.names new.page c.page_at-number.result c.in_ok-page.page
-      known.4 c.in_ok-page.ensures.grown c.in_ok-page.ensures.name new.is same)
+    known.4 c.in_ok-page.ensures.grown c.in_ok-page.ensures.name new.is same)
     c.put_page.ensures
 
 pub returns-in_ok-page-clause-mapped : goal.returns-in_ok-page-clause-mapped
@@ -105,7 +105,7 @@ returns-else-pages-len-clause-names c =
     let same = c.remove-number.ensures.value ∙ get_or_from_slice_get c.args.mapped.now.items c.first_other-at.result old.page c.remove-number.result old.got in
     on_ok_weaker c.put_page-else-pages-len.result
     (gone_noted c.args.store.now c.put_page-else-pages-len.new.store known.0 now c.args.names.now c.put_page-else-pages-len.new.names old.page c.remove-number.result known.4
-      old.is same)
+    old.is same)
     c.put_page-else-pages-len.ensures
 
 pub returns-else-pages-len-clause-mapped : goal.returns-else-pages-len-clause-mapped

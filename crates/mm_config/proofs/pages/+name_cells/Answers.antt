@@ -1,7 +1,7 @@
-use Rattle.std.proofs.Common.{◌≡◌, suc, ◌-◌, ◌+◌, ◌<◌, ◌≤◌, ◌^◌, ◌++◌, sym, ap, ◌∙◌, length, arith}
-use Rattle.std.proofs.{lemmas.{Nat.one_shl, List.take-append-drop, Result.{IfOk-weaker, on_ok_weaker}}, Math.Nat.pow-suc}
+use Rattle.std.proofs.Common.{◌≡◌, suc, ◌-◌, ◌^◌, ◌++◌, sym, ap, ◌∙◌, arith}
+use Rattle.std.proofs.{lemmas.{Nat.one_shl, List.take-append-drop, Result.{IfOk-weaker}}, Math.Nat.pow-suc}
 use Rattle.mm_pairs.specs.Named.{IsNameOf}
-use Rattle.mm_config.proofs.PageCells.{cells_joined, more_twice, more_pairs}
+use Rattle.mm_config.proofs.PageCells.{cells_joined}
 use Rattle.mm_config.proofs.pages.+name_cells.Goals as goal
 
 pub split_at-requires : goal.split_at-requires
@@ -36,5 +36,5 @@ returns-clause-tree t c =
     let right = c.in_ok-right.right in
     IfOk-weaker c.join.result (λ tree. IsNameOf (0, 0) c.join.new.self tree (left, right)) _
     (λ tree. cells_joined c.name_cells.new.store c.name_cells-2.new.store c.join.new.self d c.args.depth left right tree first second c.args.cells.now is both
-      c.in_ok-right.ensures.more c.in_ok-left.ensures.tree c.in_ok-right.ensures.tree c.join.ensures.grown)
+    c.in_ok-right.ensures.more c.in_ok-left.ensures.tree c.in_ok-right.ensures.tree c.join.ensures.grown)
     c.join.ensures.name

@@ -1,4 +1,4 @@
-use Rattle.std.proofs.Common.{◌≡◌, ◌-◌, suc, arith}
+use Rattle.std.proofs.Common.{◌-◌, arith}
 use Rattle.mm_config.proofs.PageTrees.{lower_by}
 use Rattle.mm_config.proofs.pages.lower.Goals as goal
 

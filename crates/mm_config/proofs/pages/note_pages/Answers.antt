@@ -1,4 +1,4 @@
-use Rattle.std.proofs.{Common.{◌≡◌, ◌∙◌, ap, refl, sym, subst, length, T}, lemmas.Option.slice_get_read}
+use Rattle.std.proofs.{Common.{◌∙◌, ap, refl, sym, subst, length, T}, lemmas.Option.slice_get_read}
 use Rattle.mm_config.specs.{declared.{store.Store.Store, names.Names.Names}, Naming.AreCells, Noting.PutsPage}
 use Rattle.mm_config.proofs.{Noted.{page_noted, still_more, tree_more, twice}, PageCells.{more_twice, more_pairs}}
 use Rattle.mm_config.proofs.pages.note_pages.Goals as goal
@@ -26,8 +26,8 @@ loop-page-preserved c =
     let put = subst (λ n. PutsPage k2 l.names n name k4 n4) c.number.ensures.number c.in_ok-put_page.ensures in
     record {
       names = page_noted k k1 k4 pairs l.names n4 c.args.pages.now l.page-index page c.in_ok-cells.cells name (subst T (sym c.requires.rising) tt)
-      (slice_get_read c.args.pages.now (length c.args.pages.now) l.page-index page refl c.loop-page-test.true c.page-item.is) l.invariant.names more
-      (subst (AreCells k1 9 c.in_ok-cells.cells) c.cells.ensures.cells c.in_ok-cells.ensures.tree) grown c.in_ok-name.ensures.name put;
+          (slice_get_read c.args.pages.now (length c.args.pages.now) l.page-index page refl c.loop-page-test.true c.page-item.is) l.invariant.names more
+          (subst (AreCells k1 9 c.in_ok-cells.cells) c.cells.ensures.cells c.in_ok-cells.ensures.tree) grown c.in_ok-name.ensures.name put;
       still = twice c.args.store.now k k4 l.invariant.still (twice k k2 k4 (still_more k k2 (more_twice k k1 k2 more (more_pairs k1 pairs grown))) put.still);
       others = put.others ∙ ap (λ (n : Names). record n { height = n4.height; pages = n4.pages }) l.invariant.others;
     }

@@ -1,4 +1,4 @@
-use Rattle.std.proofs.Common.{◌<◌, ◌∙◌, arith}
+use Rattle.std.proofs.Common.{◌∙◌, arith}
 use Rattle.mm_config.proofs.PageTrees.{puts_page}
 use Rattle.mm_config.proofs.pages.put_page.Goals as goal
 

@@ -1,8 +1,7 @@
-use Rattle.std.proofs.Common.{◌≡◌, ◌<◌, ◌≤◌, ◌^◌, ℕ, List, ◌++◌, ap, ◌∙◌, arith}
+use Rattle.std.proofs.Common.{◌≤◌, ℕ, List, ◌++◌, ap, ◌∙◌, arith}
 use Rattle.std.proofs.Math.Pow.{pow_mono}
 use Rattle.mm_pairs.{specs.Trees.{changed, leaves}, proofs.Names.tree_stays}
-use Rattle.mm_config.specs.declared.{store.Store.Store, put_memory.Changes.Changes}
-use Rattle.mm_config.specs.Putting.{CanPut}
+use Rattle.mm_config.specs.declared.{put_memory.Changes.Changes}
 use Rattle.mm_config.proofs.PutPages.{more_trees, can_put, put_is}
 use Rattle.mm_config.proofs.put_memory.put_memory.Goals as goal
 

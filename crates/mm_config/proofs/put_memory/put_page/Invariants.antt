@@ -1,4 +1,3 @@
-use Rattle.mm_pairs.specs.Trees.{pair_of}
 use Rattle.mm_config.specs.Putting.{AreCellsSoFar}
 use Rattle.mm_config.proofs.put_memory.put_page.Given as goal
 

@@ -1,4 +1,4 @@
-use Rattle.std.proofs.Common.{◌≡◌, ◌⊎◌, ◌+◌, ◌<◌, ◌^◌, ℕ, length, slice_get, slice_index_or, Some, sym, ap, subst, arith}
+use Rattle.std.proofs.Common.{◌≡◌, ◌⊎◌, ◌+◌, ◌<◌, ℕ, slice_index_or, Some, sym, subst, arith}
 use Rattle.std.proofs.lemmas.Option.{slice_get-get_or}
 use Rattle.mm_pairs.proofs.Names.{length_leaves}
 use Rattle.mm_config.specs.Putting.{HasPut, IsPutSoFar}
@@ -45,12 +45,12 @@ loop-place-preserved c =
     let e : ℕ × ℕ = slice_index_or ch.list.now i (0, 0) in
     let got = slice_get-get_or ch.list.now i (0, 0) c.loop-place-test.true in
     elim c.if-page-ne0.branch [
-      then-page-ne0+in_ok-put_page w ↦
-      let now = w.put_page.new.mem in
-      let may = may_put k ch old c.requires i l.mem l.invariant e got w.if-page-ne0.true c.pages-count.ensures.paged w.number-number.result w.leaf-before.result w.number-number.ensures w.leaf-before.ensures in
-      let page = may.wanted in
-      let put = subst (λ q. HasPut l.mem now q (Some page.0)) w.number-number.ensures (w.in_ok-put_page.ensures page.0 page.1) in
-      subst (IsPutSoFar k ch (λ index name. (name ≡ 0) ⊎ (index < i + 1)) old) (sym w.mem-is) (put_makes k ch old c.requires i l.mem e got l.invariant now page.0 put page.1)
+      | then-page-ne0+in_ok-put_page w ↦
+          let now = w.put_page.new.mem in
+          let may = may_put k ch old c.requires i l.mem l.invariant e got w.if-page-ne0.true c.pages-count.ensures.paged w.number-number.result w.leaf-before.result w.number-number.ensures w.leaf-before.ensures in
+          let page = may.wanted in
+          let put = subst (λ q. HasPut l.mem now q (Some page.0)) w.number-number.ensures (w.in_ok-put_page.ensures page.0 page.1) in
+          subst (IsPutSoFar k ch (λ index name. (name ≡ 0) ⊎ (index < i + 1)) old) (sym w.mem-is) (put_makes k ch old c.requires i l.mem e got l.invariant now page.0 put page.1)
       | else-page-ne0 w ↦ subst (IsPutSoFar k ch (λ index name. (name ≡ 0) ⊎ (index < i + 1)) old) (sym w.mem-is) (put_skips k ch old c.requires i l.mem e got l.invariant w.if-page-ne0.false)
     ]
 

@@ -1,4 +1,4 @@
-use Rattle.std.proofs.Common.{◌≡◌, suc, ◌+◌, arith}
+use Rattle.std.proofs.Common.{◌+◌, arith}
 use Rattle.mm_pairs.proofs.Names.{grown_twice}
 use Rattle.mm_config.specs.declared.names.Names.{Names}
 use Rattle.mm_config.proofs.PageTrees.{deeper, still_same}

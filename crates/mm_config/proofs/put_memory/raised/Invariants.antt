@@ -1,4 +1,4 @@
-use Rattle.mm_config.specs.{declared.names.Names.Names, Noting.IsSameTree}
+use Rattle.mm_config.specs.{Noting.IsSameTree}
 use Rattle.mm_config.proofs.put_memory.raised.Given as goal
 
 abbrev pub invariant-loop-k : goal.invariant-loop-k

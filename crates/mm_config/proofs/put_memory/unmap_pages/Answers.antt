@@ -1,4 +1,4 @@
-use Rattle.std.proofs.Common.{◌≡◌, ◌+◌, ◌<◌, ℕ, length, slice_get, slice_index_or, Some, None, sym, ap, subst, arith}
+use Rattle.std.proofs.Common.{◌≡◌, ◌+◌, ◌<◌, ℕ, slice_index_or, None, sym, subst, arith}
 use Rattle.std.proofs.lemmas.Option.{slice_get-get_or}
 use Rattle.mm_config.specs.Putting.{HasPut, IsPutSoFar}
 use Rattle.mm_config.proofs.{PutCells.unmapped_page, PutPages.{unmap_begins, unmap_skips, unmap_makes, unmap_ends, page_of_change}}
@@ -33,10 +33,10 @@ loop-place-preserved c =
     let e : ℕ × ℕ = slice_index_or ch.list.now i (0, 0) in
     let got = slice_get-get_or ch.list.now i (0, 0) c.loop-place-test.true in
     elim c.if-page-eq0.branch [
-      then-page-eq0 w ↦
-      let now = w.unmap.new.self in
-      let put = subst (λ q. HasPut l.mem now q None) w.number.ensures (unmapped_page l.mem now w.number.result w.unmap.ensures.after w.unmap.ensures.count) in
-      subst (IsPutSoFar k ch (λ index name. (index < i + 1) × (name ≡ 0)) old) (sym w.mem-is) (unmap_makes k ch old c.requires i l.mem e got l.invariant w.if-page-eq0.true now put)
+      | then-page-eq0 w ↦
+          let now = w.unmap.new.self in
+          let put = subst (λ q. HasPut l.mem now q None) w.number.ensures (unmapped_page l.mem now w.number.result w.unmap.ensures.after w.unmap.ensures.count) in
+          subst (IsPutSoFar k ch (λ index name. (index < i + 1) × (name ≡ 0)) old) (sym w.mem-is) (unmap_makes k ch old c.requires i l.mem e got l.invariant w.if-page-eq0.true now put)
       | else-page-eq0 w ↦ subst (IsPutSoFar k ch (λ index name. (index < i + 1) × (name ≡ 0)) old) (sym w.mem-is) (unmap_skips k ch old c.requires i l.mem e got l.invariant w.if-page-eq0.false)
     ]
 

@@ -1,4 +1,4 @@
-use Rattle.std.proofs.Common.{◌<◌, ◌∙◌, ap, sym, not, arith, length}
+use Rattle.std.proofs.Common.{◌∙◌, ap, sym, not, arith}
 use Rattle.mm_config.{specs.Forms.changed_flags, proofs.WordForms.length-changed}
 use Rattle.mm_config.proofs.Masks.{begins, mask_more, mask_fits, mask_is, mask_below, changed_at}
 use Rattle.mm_config.proofs.slot_form.changed_mask.Goals as goal

@@ -1,4 +1,4 @@
-use Rattle.std.proofs.Common.{◌<◌, ◌∙◌, sym, map, arith, length}
+use Rattle.std.proofs.Common.{◌∙◌, sym, map, arith}
 use Rattle.mm_word.specs.Word.{is_pointer}
 use Rattle.mm_config.proofs.Masks.{begins, mask_more, mask_fits, mask_is, mask_below, pointer_at}
 use Rattle.mm_config.proofs.SlotForms.{length-pointers}

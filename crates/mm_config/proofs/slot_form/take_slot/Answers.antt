@@ -1,7 +1,6 @@
-use Rattle.std.proofs.Common.{◌/◌, ◌%◌, List, [], ap, sym, ◌∙◌}
-use Rattle.mm_word.specs.declared.word.Word.{Word}
+use Rattle.std.proofs.Common.{◌/◌, ◌%◌, [], ap, ◌∙◌}
 use Rattle.mm_model.specs.Slot.{Slot}
-use Rattle.mm_config.{specs.Forms.{register_flags, words_from, slot_from}, proofs.Taking.{registers_read, registers_left, slot_taken}}
+use Rattle.mm_config.{specs.Forms.{register_flags, slot_from}, proofs.Taking.{registers_read, registers_left, slot_taken}}
 use Rattle.mm_config.proofs.slot_form.take_slot.Goals as goal
 
 pub returns : goal.returns

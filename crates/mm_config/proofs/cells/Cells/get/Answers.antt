@@ -1,4 +1,4 @@
-use Rattle.std.proofs.Common.{◌≡◌, ◌-◌, ◌≤◌, ◌%◌, ℕ, List, sym, ap, ◌∙◌, subst, length, map, slice_index_or}
+use Rattle.std.proofs.Common.{◌≡◌, ◌-◌, ◌≤◌, ◌%◌, List, sym, ap, ◌∙◌, subst, length, map, slice_index_or}
 use Rattle.std.specs.Prelude.{◌==◌}
 use Rattle.mm_word.specs.declared.word.Cell.{Cell}
 use Rattle.mm_model.specs.Memory.{zero_cell}

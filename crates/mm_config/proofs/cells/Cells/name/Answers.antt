@@ -1,5 +1,4 @@
-use Rattle.std.proofs.Common.{◌≡◌, ◌+◌, ℕ, sym, ap, ◌∙◌, subst}
-use Rattle.mm_word.specs.declared.word.Cell.{Cell}
+use Rattle.std.proofs.Common.{◌+◌, sym, ap, subst}
 use Rattle.mm_model.specs.Memory.{zero_cell}
 use Rattle.mm_pairs.{specs.Named.IsNameOf, proofs.Inserts.{is_named, same_pair, is_same}}
 use Rattle.mm_config.specs.Forms.{cell_from, IsCellForm}

@@ -1,4 +1,4 @@
-use Rattle.std.proofs.Common.{◌≡◌, ◌∙◌, sym}
+use Rattle.std.proofs.Common.{◌∙◌, sym}
 use Rattle.mm_config.specs.Keeping.{IsKeyOf}
 use Rattle.mm_config.proofs.Zips.{zip_long}
 use Rattle.mm_config.proofs.configs.Configs.len.Goals as goal

@@ -1,4 +1,4 @@
-use Rattle.std.proofs.Common.{◌≡◌, ◌<◌, ◌≤◌, ◌+◌, ◌++◌, ◌∷◌, [], ℕ, Some, length, slice_get, take, sym, ap, ◌∙◌, arith}
+use Rattle.std.proofs.Common.{◌≡◌, ◌++◌, ◌∷◌, [], Some, length, slice_get, take, sym, ap, ◌∙◌, arith}
 use Rattle.std.proofs.lemmas.{List.{take_more, length-map, take_all}, Option.{get_or_from_slice_get, slice_get_within}}
 use Rattle.mm_config.specs.declared.configs.Configs as code
 use Rattle.mm_config.specs.Noting.{mapped_pages}

@@ -1,4 +1,4 @@
-use Rattle.std.proofs.Common.{◌≡◌, ◌∙◌, sym, refl}
+use Rattle.std.proofs.Common.{◌∙◌, sym, refl}
 use Rattle.mm_config.proofs.NotedMemory.{no_page_noted, other_page, page_is_noted}
 use Rattle.mm_config.proofs.configs.Configs.note_mapped.Goals as goal
 

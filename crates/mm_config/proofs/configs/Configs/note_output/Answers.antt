@@ -1,4 +1,4 @@
-use Rattle.std.proofs.Common.{◌≡◌, ◌-◌, ◌≤◌, ◌∙◌, sym, ap, subst, length, slice_set, slice_index_or}
+use Rattle.std.proofs.Common.{◌-◌, ◌≤◌, ◌∙◌, sym, ap, subst, length, slice_set, slice_index_or}
 use Rattle.mm_pairs.specs.Trees.{leaves, HasLeaves}
 use Rattle.mm_config.{specs.Naming.leaf_at, proofs.OneNote.{short_name, output_noted}}
 use Rattle.mm_config.proofs.configs.Configs.note_output.Goals as goal

@@ -17,4 +17,4 @@ returns c =
     let Fault : ℕ → Type 0 = IsFaultHandler me.base.items c.args.step.now.tick at in
     on_ok_weaker c.note_queue.result
     (λ own. queues_weaker (λ k. Fault k ⊎ (k ≡ at)) (λ k. Fault k ⊎ ((k ≡ at) × (new.names.queues ≢ 0))) (λ k due. elim due [ inl h ↦ inl h | inr h ↦ inr h.0 ]) me new
-      (queues_twice Fault (λ k. k ≡ at) me mid new c.in_ok-note_fault.ensures own)) c.note_queue.ensures
+    (queues_twice Fault (λ k. k ≡ at) me mid new c.in_ok-note_fault.ensures own)) c.note_queue.ensures

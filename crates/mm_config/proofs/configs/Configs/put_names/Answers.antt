@@ -1,9 +1,13 @@
-use Rattle.std.proofs.Common.{◌≡◌, ℕ, refl, sym, ap, ◌∙◌, subst}
+use Rattle.std.proofs.Common.{ℕ, refl, sym, subst}
 use Rattle.mm_config.specs.declared.configs.Configs as code
-use Rattle.mm_config.specs.declared.names.Names.{Names}
-use Rattle.mm_config.specs.{Keeping.Stands, Reaching.HasPutCore}
+use Rattle.mm_config.specs.{Keeping.Stands}
 use Rattle.mm_config.proofs.Standing.{there_already, wanted_is, reaches_it, memory_before, memory_wanted, is_paged, same_frames, put_stands}
 use Rattle.mm_config.proofs.configs.Configs.put_names.Goals as goal
+
+pub returns-then-rest-self : goal.returns-then-rest-self
+returns-then-rest-self c = λ h.
+    let key : ℕ × ℕ = (c.args.slots, c.args.rest) in
+    there_already c.args.self.now key h c.apart.ensures (λ j. (c.if-slots-self.true j, c.if-rest-self.true j))
 
 pub of-wanted-requires : goal.of-wanted-requires
 of-wanted-requires c = (c.requires.is.names, c.requires.is.rest)

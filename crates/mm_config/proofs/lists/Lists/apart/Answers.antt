@@ -8,4 +8,4 @@ pub returns : goal.returns
 returns c =
     subst (HaveOneName {A = List ℕ} []) c.self.view_is
     (have_one_name (λ (x y : Vec ℕ Global). pointwise nat_eq x.items y.items) (λ (x : Vec ℕ Global). x.items) [] (λ (x : Vec ℕ Global). x.items ≡ [] → ⊥)
-      (λ x y p q e. same_list x.items y.items e) (λ x p e. p e) c.self.inside.lists.keys c.self.invariant c.len-count.ensures.unique)
+    (λ x y p q e. same_list x.items y.items e) (λ x p e. p e) c.self.inside.lists.keys c.self.invariant c.len-count.ensures.unique)

@@ -1,4 +1,4 @@
-use Rattle.std.proofs.Common.{◌≡◌, ◌-◌, ◌≤◌, ℕ, List, [], sym, ap, ◌∙◌, subst, length, map}
+use Rattle.std.proofs.Common.{◌≡◌, ◌≤◌, ℕ, List, [], sym, ap, ◌∙◌, subst, length, map}
 use Rattle.mm_pairs.{specs.Named.named, proofs.Inserts.named_before}
 use Rattle.mm_config.proofs.lists.Lists.get.Goals as goal
 

@@ -1,4 +1,4 @@
-use Rattle.std.proofs.Common.{◌≡◌, ◌+◌, ℕ, List, [], Vec, Global, nat_eq, sym, subst}
+use Rattle.std.proofs.Common.{◌+◌, ℕ, List, [], Vec, Global, nat_eq, sym, subst}
 use lib.Pointwise.{pointwise}
 use Rattle.mm_pairs.{specs.Named.IsNameOf, proofs.Inserts.{found_at, named_at}}
 use Rattle.mm_config.proofs.ListForms.{list_is}

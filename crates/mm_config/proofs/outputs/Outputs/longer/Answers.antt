@@ -1,7 +1,7 @@
-use Rattle.std.proofs.Common.{◌≡◌, ◌+◌, ◌<◌, ◌≤◌, ℕ, List, length, sym, ap, subst, arith}
+use Rattle.std.proofs.Common.{◌≡◌, ◌+◌, ℕ, List, length, sym, ap, subst, arith}
 use Rattle.std.proofs.lemmas.List.{map-id}
-use Rattle.mm_pairs.{specs.Named.{IsNameOf, HasGrown}, proofs.Inserts.{is_named, has_grown, same_pair, is_same}}
-use Rattle.mm_config.{specs.Chains.Rise, proofs.Rising.{rise_more, rise_at}}
+use Rattle.mm_pairs.{specs.Named.{IsNameOf}, proofs.Inserts.{is_named, same_pair, is_same}}
+use Rattle.mm_config.{proofs.Rising.{rise_more, rise_at}}
 use Rattle.mm_config.proofs.outputs.Outputs.longer.Goals as goal
 
 pub invariant_of-self-2 : goal.invariant_of-self-2
