@@ -9,11 +9,10 @@ use Rattle.std.specs.List.{flat_map, list_any, range_with_len}
 use Rattle.mm_model.specs.Image.{Image}
 use Rattle.mm_kernel.specs.{Segments.Segment, Facts.Fact}
 use Rattle.mm_kernel.specs.declared.{form.Form.Form, outcome.Outcome.Outcome, thread.Thread.Thread}
-use Rattle.mm_keep.specs.Claims.{Claim, Tables, Begins, Adds, AddsFacts, Facts, Holds, HoldsFact}
-use Rattle.mm_keep.specs.Claims.Claim.{IsFact, SomeResumes, SomeWrites}
+use Rattle.mm_keep.specs.Claims.{Claim, Tables, Begins, Adds, AddsFacts}
 use Rattle.mm_keep.specs.Searching.{FollowsAtOnce, SomeAtOnce}
-use Rattle.mm_keep.proofs.Claims.{adds_held, adds_none, adds_then, facts_none, facts_then}
-use Rattle.mm_keep.proofs.Members.{none_in, in_cases, in_flat}
+use Rattle.mm_keep.proofs.Claims.{adds_none, adds_then, facts_none, facts_then}
+use Rattle.mm_keep.proofs.Members.{none_in, in_cases}
 
 -- 1. Lists that have grown.
 
@@ -132,16 +131,6 @@ module _ (i : Image) (kept : List Segment) where
     pub facts_all : (xs : List X) (k : ℕ) (a b : Tables) → length xs ≤ k → AddsFacts i kept (flat_map f (take k xs)) a b
         → AddsFacts i kept (flat_map f xs) a b
     facts_all xs k a b le h = facts_same (flat_map f (take k xs)) (flat_map f xs) a b (ap (flat_map f) (take_all k xs le)) h
-
-    -- what follows from an element that comes again is held
-    pub facts_again : (xs : List X) (x : X) (a : Tables) → Contains xs x
-        → ((fact : Fact) → Contains (flat_map f xs) fact → HoldsFact i kept a fact) → AddsFacts i kept (f x) a a
-    facts_again xs x a inside held = adds_held i kept (Facts (f x)) a again
-      where
-        again : (claim : Claim) → Facts (f x) claim → Holds i kept a claim
-        again (IsFact fact) h = held fact (in_flat f xs x fact inside h)
-        again (SomeResumes slot how) h = absurd h
-        again (SomeWrites slot reg form) h = absurd h
 
   pub facts_next : (f : ℕ → List Fact) (n : ℕ) (a b c : Tables) → AddsFacts i kept (flat_map f (range_with_len 0 n)) a b
       → AddsFacts i kept (f n) b c → AddsFacts i kept (flat_map f (range_with_len 0 (n + 1))) a c

@@ -1,10 +1,10 @@
 //! What follows from what others leave: from stored forms, events, faulted threads and doors.
 
-ghost use Rattle.std.specs.Prelude.{◌≡◌, ◌<◌, Contains, OnOk, length, true};
+ghost use Rattle.std.specs.Prelude.{◌≡◌, ◌<◌, OnOk, length};
 ghost use Rattle.std.specs.List.{flat_map};
-ghost use Rattle.mm_kernel.specs.Facts.{Fact, take_up};
+ghost use Rattle.mm_kernel.specs.Facts.{take_up};
 ghost use Rattle.mm_kernel.specs.Threads.{thread_through};
-ghost use Rattle.mm_keep.specs.Claims.{AddsFacts, HoldsFact};
+ghost use Rattle.mm_keep.specs.Claims.{AddsFacts};
 ghost use Rattle.mm_keep.specs.Searching.{Derives, again_facts, comes_from, enter_facts, entered_facts, follows_from};
 ghost use Rattle.mm_keep.specs.Searching.{goes_on_facts, loaded_facts, read_facts, resumed_facts, taken_facts, written_facts};
 
@@ -280,48 +280,6 @@ pub fn go_on(kernel: &Kernel, tables: &mut Tables) -> Result<(), NoMemory>
 
 // 3. Doors.
 
-/// Whether two handlers are one.
-fn same_handler(a: Handler, b: Handler) -> bool
-    ensures { result ≡ true → a ≡ b }
-{
-    a == b
-}
-
-/// Whether a handler is one of these.
-fn is_among(handlers: &[Handler], handler: Handler) -> bool
-    ensures { result ≡ true → Contains handlers.now handler }
-{
-    for other in handlers {
-        if same_handler(*other, handler) {
-            return true;
-        }
-    }
-    false
-}
-
-/// Takes up the thread that enters at an instruction with a handler. If the handler is one of those before it, that was
-/// done.
-fn enter_with(
-    kernel: &Kernel,
-    tables: &mut Tables,
-    door: GuardedPtr,
-    ip: GuardedPtr,
-    before: &[Handler],
-    handler: Handler,
-) -> Result<(), NoMemory>
-    requires { (fact : Fact)
-        → Contains (flat_map (λ h. take_up kernel.now.image kernel.now.kept (thread_through door ip h)) before.now) fact
-        → HoldsFact kernel.now.image kernel.now.kept tables.old fact }
-    ensures { OnOk result (AddsFacts kernel.now.image kernel.now.kept
-        (take_up kernel.now.image kernel.now.kept (thread_through door ip handler)) tables.old tables.new) }
-{
-    if is_among(before, handler) {
-        Ok(())
-    } else {
-        tables.take_up(kernel, &thread_through(door, ip, handler))
-    }
-}
-
 /// Takes up the threads that enter at an instruction, with each of these handlers.
 fn enter_at(
     kernel: &Kernel,
@@ -334,8 +292,8 @@ fn enter_at(
         (flat_map (λ handler. take_up kernel.now.image kernel.now.kept (thread_through door ip handler)) handlers.now)
         tables.old tables.new) }
 {
-    for (k, handler) in handlers.iter().enumerate() {
-        enter_with(kernel, tables, door, ip, &handlers[..k], *handler)?;
+    for handler in handlers {
+        tables.take_up(kernel, &thread_through(door, ip, *handler))?;
     }
     Ok(())
 }

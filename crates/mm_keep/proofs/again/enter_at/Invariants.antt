@@ -4,5 +4,5 @@ use Rattle.mm_kernel.specs.{declared.thread.Handler.Handler, Facts.take_up, Thre
 use Rattle.mm_keep.specs.Claims.{AddsFacts}
 use Rattle.mm_keep.proofs.again.enter_at.Given as goal
 
-abbrev pub invariant-loop-k : goal.invariant-loop-k
-invariant-loop-k l = AddsFacts l.kernel.image l.kernel.kept (flat_map (λ (handler : Handler). take_up l.kernel.image l.kernel.kept (thread_through l.door l.ip handler)) (take l.k l.handlers)) l.initial.tables l.tables
+abbrev pub invariant-loop-handler : goal.invariant-loop-handler
+invariant-loop-handler l = AddsFacts l.kernel.image l.kernel.kept (flat_map (λ (handler : Handler). take_up l.kernel.image l.kernel.kept (thread_through l.door l.ip handler)) (take l.handler-index l.handlers)) l.initial.tables l.tables
