@@ -15,6 +15,9 @@ EDITS = sum(len(os.listdir(path_of("crates", crate, "must-fail"))) for crate in 
             if os.path.isdir(path_of("crates", crate, "must-fail")))
 REFUSED = "rt: must-fail mm_word/a.edit: refused, as it must be: src/a.rt:1:1: error"
 GOOD = (REFUSED, "rt: ok; handles allowed: none; must-fail edits: {edits} refused; every proof was done", "{all} passed, 0 failed")
+# What an older kit says, which counts no edits in its last line.
+EACH = tuple(f"rt: must-fail mm_word/{at}.edit: refused, as it must be: src/a.rt:1:1: error" for at in range(EDITS))
+OLDER = (*EACH, "rt: ok; handles allowed: none", "{all} passed, 0 failed")
 
 
 def is_checkout():
@@ -60,6 +63,12 @@ class Proofs(unittest.TestCase):
         for lines in (GOOD[:2], GOOD[:1] + GOOD[2:], (*GOOD[:2], "1 passed, 0 failed"),
                       (GOOD[1].replace("{edits}", "1"), GOOD[2]), (*GOOD[:2], GOOD[2].replace("0 failed", "1 failed"))):
             self.assertEqual(self.ends(lines)[0], 1, lines)
+
+    def test_an_older_kit(self):
+        self.assertEqual(self.ends(OLDER)[0], 0)
+        self.assertEqual(self.ends(OLDER[1:])[0], 1)
+        self.assertEqual(self.ends((*OLDER[1:-2], OLDER[1], *OLDER[-2:]))[0], 1)
+        self.assertEqual(self.ends((*EACH, OLDER[-1]))[0], 1)
 
     def test_how_rt_ends(self):
         for status in (1, 2, 3):
