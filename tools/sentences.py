@@ -100,6 +100,7 @@ SECTIONS = [
     ("docs/COMMANDS.md", "## All commands", "mm_top/specs/Commands.antt mm_cli/src/table.rt"),
     ("docs/COMMANDS.md", "## How a command ends", "mm_load/specs/Lines.antt mmachine/specs/Exit.antt"),
     (INSTRUCTIONS, "## The word", "mm_isa/specs/Decode.antt"),
+    ("docs/RELIABILITY.md", "### A second implementation", ""),
     ("docs/STRENGTH.md", "## The bugs", ""),
     ("docs/STRENGTH.md", "## Bugs in how files are read", ""),
     ("docs/STRENGTH.md", "## Bugs in the pipelined core", ""),

@@ -3,7 +3,8 @@ place, and the script of the merge check that has to notice.
 
 A body changes its words, or says how a run ends, and what it leaves is done by the program. It has these functions:
 `end STATUS LINE` ends so; `ran WORDS` runs the program, and `text SED`, `line SED` and `bytes AT BYTE` change what it
-wrote on standard output or standard error; `told` ends as it did. To add a body, add a row to `BODIES`."""
+wrote on standard output or standard error; `told` ends as it did; `size FILE` and `half AT FILE` say how long a file is and
+which number two of its bytes are. To add a body, add a row to `BODIES`."""
 
 HELP = r"""#!/bin/sh
 program='%(program)s'
@@ -13,6 +14,7 @@ end() { printf '%%s\n' "mmachine: $2" >&2; exit "$1"; }
 no_memory() { end 5 'out of memory'; }
 usage() { end 1 usage; }
 size() { stat -Lc %%s -- "$1" 2>/dev/null || echo 0; }
+half() { od -An -tu2 --endian=big -j"$1" -N2 -- "$2" | tr -d ' '; }
 ran() {
     [ ! -c /dev/fd/1 ] || exec "$program" "$@"
     room=$(mktemp -d) && trap 'rm -rf "$room"' EXIT
@@ -34,6 +36,8 @@ WHY, EXPLORE, KEEPS, LIMITS, HOSTILE = ".ci/why", ".ci/explore", ".ci/keeps", ".
 MM, PICTURES, VIEW, PAGES = ".ci/mm", "docs/pictures/build", "docs/view/build", "examples/check"
 TRUTH, C, HARDWARE, EDITORS, BROWSER = ".ci/truth", ".ci/c", ".ci/hardware", "editors/check", ".ci/view"
 SERVE, CONFORMANCE = ".ci/serve", ".ci/conformance"
+# A module of the tests of `mm`.
+MANY = "-m", "mm.tests", "--jobs", "1", "test_many"
 
 # Each body: what it does wrong, the script that has to notice, what it does; and words for that script, with
 # which it is enough.
@@ -232,6 +236,15 @@ BODIES = [
     ("a write is counted twice", CONFORMANCE, '[ "$1" != log ] || { ran "$@"; text "s/ writes 1$/ writes 2/"; told; }'),
     ("a fault of bounds is one of permission", CONFORMANCE,
      '[ "$1" != log ] || { ran "$@"; text "s/faulted 3/faulted 4/"; told; }'),
+    ("no group around a kernel writes", KEEPS, '[ "$1" != keeps ] || { ran "$@"; text "/^group /,\\${/^write /d}"; told; }'),
+    ("each group around a kernel stands apart", KEEPS,
+     '[ "$1" != keeps ] || { ran "$@"; text "s/^apart \\([^ ]*\\) .*/apart \\1 yes/"; told; }'),
+    ("a sweep of 2^14 to 2^53 bytes sweeps nothing", MM,
+     '[ "$1" != sweep ] || case $4 in 1[4-9]|[2-4][0-9]|5[0-3]) cat "$2"; exit 0 ;; esac', *MANY),
+    ("nobody holds a range of 2^14 to 2^53 bytes", MM,
+     '[ "$1" != holders ] || case $4 in 1[4-9]|[2-4][0-9]|5[0-3]) exit 0 ;; esac', *MANY),
+    ("a link of four nodes or more brings nothing", MM,
+     '[ "$1" != net ] || [ $# -lt 8 ] || { ran "$@"; text "s/^\\(link .*\\) arrived .*/\\1 arrived 0/"; told; }', *MANY),
     ("a group that stands apart is not told", MM, '[ "$1" != grants ] || { ran "$@"; text "/^apart .* yes/d"; told; }'),
     ("bytes that are put out have capital digits", MM, 'ran "$@"; text "s/^o 4f/o 4F/"; told'),
     ("a picture's run has a turn fewer", PICTURES, '[ "$1" != trace ] || { ran "$@"; text "1d"; told; }'),
@@ -269,6 +282,12 @@ BODIES = [
     *((f"{command} has no memory for an object of more than 2,000 relocations", LIMITS,
        f'[ "$1" != {command} ] || [ "$(size "$2")" -le 50000 ] || no_memory', "link_most")
       for command in ("link", "dis")),
+    ("dis has no memory for an object of more than 200 externals", LIMITS,
+     '[ "$1" != dis ] || [ "$(half 8 "$2")" -le 200 ] || no_memory', "link_most"),
+    ("link has no memory for an object of more than 200 externals", LIMITS,
+     'if [ "$1" = link ]; then for it do [ ! -f "$it" ] || [ "$(half 8 "$it")" -le 200 ] || no_memory; done; fi', "link_most"),
+    ("link has no memory for an object of more than 100 segments", LIMITS,
+     'if [ "$1" = link ]; then for it do [ ! -f "$it" ] || [ "$(half 6 "$it")" -le 100 ] || no_memory; done; fi', "link_most"),
     ("asm has no memory for a source of more than 1 MB", LIMITS,
      '[ "$1" != asm ] || [ "$(size "$2")" -le 1000000 ] || no_memory', "link_most"),
     ("net has memory for up to 2 nodes, and for 8", LIMITS,

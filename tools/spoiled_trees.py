@@ -6,8 +6,12 @@ instead. The script has to notice, in a copy of this checkout with this one chan
 EDITS, COUNTS, OPERATIONS, NAMES = [".ci/edits"], [".ci/counts"], [".ci/operations"], [".ci/names"]
 CLAIMS, COMMENTS, HINTS, BROKEN = [".ci/claims"], [".ci/comments"], [".ci/hints"], ["tools/broken", "--applies"]
 CLAUSES, BROWSER = ["docs/clauses", "--check"], [".ci/view", "--short"]
+# What stands between the program and the system does there what a wrong program would do: {} is the program.
+SMALL, TYPED = "run examples/letterbox.img 100 examples/letterbox.schedule", "debug examples/counter.img < examples/bug.input"
+MEMORY, CALLS, SHORT = (["tools/hostile", "--quick", "--program", "{}", "--only", it, SMALL, TYPED] for it in ("memory", "calls", "short"))
+BETWEEN = MEMORY, CALLS, SHORT
 # Those that the merge check does not try.
-LONG = (HINTS, BROWSER)
+LONG = (HINTS, BROWSER, *BETWEEN)
 
 TREES = [
     ("a wrong body does not apply", EDITS, "crates/mm_word/must-fail/restrict_ro_to_rw.edit", "Perm::Key,", "Perm::Kez,"),
@@ -56,5 +60,16 @@ TREES = [
      "from __future__ import annotations\n\nimport fractions\n"),
     ("a page never comes up", BROWSER, "mm/view/main.js", "  root.dataset.place = place;", "  root.dataset.place = = place;"),
     ("a page hangs", BROWSER, "mm/view/main.js", "  root.dataset.place = place;", "  for (;;) root.dataset.place = place;"),
+    ("want of memory is overlooked", MEMORY, "tools/between.c", "    errno = ENOMEM;\n    return 1;\n", "    return 0;\n"),
+    ("a read that fails is the end", CALLS, "tools/between.c", "return fails(name) ? -1 : syscall(SYS_read,", "return fails(name) ? 0 : syscall(SYS_read,"),
+    ("a read that fails after the first is the end", CALLS, "tools/between.c", "return fails(name) ? -1 : syscall(SYS_read,",
+     "return fails(name) ? -(syscall(SYS_lseek, file, 0, SEEK_CUR) == 0) : syscall(SYS_read,"),
+    ("a write that fails is done", CALLS, "tools/between.c", "return answer <= 0 ? answer : syscall(SYS_write, file, from, moves(",
+     "return answer <= 0 ? (ssize_t)size : syscall(SYS_write, file, from, moves("),
+    ("a write that takes nothing is made again", CALLS, "tools/between.c", "    met = name;\n    return 0;\n", "    met = name;\n    return 2;\n"),
+    ("a write of one byte is that of all", SHORT, "tools/between.c", "syscall(SYS_write, file, from, moves(sink(file), size));\n}\nssize_t __write",
+     "(syscall(SYS_write, file, from, moves(sink(file), size)), (ssize_t)size);\n}\nssize_t __write"),
+    ("what a read of one byte leaves is lost", SHORT, "tools/between.c", "syscall(SYS_read, file, to, moves(name, size));",
+     "({ ssize_t got = syscall(SYS_read, file, to, size), most = moves(name, size); got < most ? got : most; });"),
     ("a broken line does not apply", BROKEN, "mm/waves/vcd.py", 'yield "bytes", 17, len(data)', 'yield "bytes", 17, (len(data))'),
 ]
