@@ -12,7 +12,7 @@ outputs.img   a slot that puts out bytes without end, and one with a loop of thr
 import sys
 from pathlib import Path
 
-from images import CODE, EXECUTE, PRIVILEGED, READ_WRITE, addi, br, data, image, loop, page, pointer, registers, slot, st, word
+from images import CODE, EXECUTE, PRIVILEGED, addi, br, data, image, loop, page, pointer, registers, slot, st, word
 
 TURNS = 20
 HALT = word(0x00)
