@@ -1,6 +1,6 @@
 -- What was noted of all turns explored is what an exploration finds.
 use Rattle.std.proofs.Common.{◌≡◌, inl, inr, ℕ, ◌<◌, Bool, true, false, if◌then◌else◌, List, [], ◌∷◌, ◌++◌, map, length}
-use Rattle.std.proofs.Common.{zero, suc, Option, Some, None, slice_get, refl, sym, ap, ◌∙◌, subst}
+use Rattle.std.proofs.Common.{zero, suc, Option, Some, None, slice_get, refl, sym, subst}
 use Rattle.std.proofs.lemmas.Option.{slice_get_within}
 use Rattle.std.specs.{Prelude.{Contains, IfSome, slice_index_or}, List.{AllZip, flat_map}}
 use Rattle.mm_word.specs.{Cause.cause_numbers, declared.perm.Kind.Kind, Access.AccessValue}

@@ -7,9 +7,9 @@ use Rattle.mm_model.specs.{Run.{turn_of, run}, Trace.{touches, group_in}}
 use Rattle.mm_explore.specs.Moves.{moves}
 use Rattle.mm_explore.specs.Explored.{leads_to}
 use Rattle.mm_explore.specs.Findings.{Extension, turn_at, extensions, explored_turns, Reaches, has_fault}
-use Rattle.mm_explore.specs.{Findings.{first_fault, IsFinal}, Laws.GoesOnAlike}
+use Rattle.mm_explore.specs.{Findings.{first_fault}, Laws.GoesOnAlike}
 use Rattle.mm_span.proofs.Members.{none_in, in_map, in_flat, finds_some}
-use Rattle.mm_explore.proofs.{Movings.moves_or_idles, Coverings.{alike, leads_alike}, Orders.more}
+use Rattle.mm_explore.proofs.{Movings.moves_or_idles, Coverings.{alike}}
 
 -- a cycle with an access, or with a fault, is that of a move
 pub touching_moves : (s : State) (n : ℕ) (a : AccessValue) → Contains (touches (turn_of s n).step) a → Contains (moves s) n

@@ -11,7 +11,7 @@ use Rattle.mm_explore.specs.declared.explored.{Standing.{Standing}}
 use Rattle.mm_explore.specs.{Explored.leads_to, Findings.{IsFinal, are_none}, Moves.moves}
 use Rattle.mm_explore.specs.{Noting.{outcome_held, standings_of}, Searching.{AreBusyBy}}
 use Rattle.mm_explore.specs.{Finds.{as_output, outcome_found}, Results.OutcomeFound}
-use Rattle.mm_explore.specs.Outcomes.{Outcome, End, IsEnding, AreStanding, IsOutcome, IsSteady, slots_at, ending_of}
+use Rattle.mm_explore.specs.Outcomes.{End, IsEnding, AreStanding, IsOutcome, IsSteady, slots_at, ending_of}
 use Rattle.mm_explore.proofs.{ClosedSets.final_stays_all, Goings.outputs_bare}
 use Rattle.mm_explore.specs.declared.ends.End as code_end
 

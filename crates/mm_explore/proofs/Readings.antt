@@ -1,6 +1,6 @@
 -- Items that are read of a configuration, one after the other.
-use Rattle.std.proofs.Common.{◌≡◌, ℕ, zero, suc, ◌+◌, ◌/◌, ◌%◌, ◌^◌, ◌<◌, ◌≤◌, Bool, true, false, if◌then◌else◌, ◌==◌, bit_and, List, []}
-use Rattle.std.proofs.Common.{◌∷◌, ◌++◌, map, length, take, slice_get, Some, refl, sym, ap, ◌∙◌, arith, append_assoc}
+use Rattle.std.proofs.Common.{◌≡◌, ℕ, zero, suc, ◌+◌, ◌/◌, ◌%◌, ◌^◌, ◌<◌, ◌≤◌, Bool, false, if◌then◌else◌, ◌==◌, bit_and, List, []}
+use Rattle.std.proofs.Common.{◌∷◌, ◌++◌, length, take, slice_get, Some, sym, ap, ◌∙◌, arith, append_assoc}
 use Rattle.std.proofs.lemmas.List.{take_more, flat_map_more, take_all, length-map}
 use Rattle.std.proofs.lemmas.{Nat.and_mask, Option.{get_or_from_slice_get, slice_get_within, slice_get-get_or}}
 use Rattle.std.specs.List.{flat_map}

@@ -1,6 +1,6 @@
 -- The schedules of a list of which something holds.
 use Rattle.std.proofs.Common.{◌≡◌, inl, inr, ℕ, List, [], ◌∷◌, ◌++◌, refl, sym, ap, ◌∙◌, subst}
-use Rattle.std.specs.{Prelude.Contains, List.AllByRecursion}
+use Rattle.std.specs.{Prelude.Contains}
 use Rattle.mm_span.{specs.Pairs.EachPair, proofs.Members.{none_in, in_first, in_rest, in_cases, all_at, all_of}}
 use Rattle.mm_explore.specs.{Outcomes.Selects, Schedules.Before}
 

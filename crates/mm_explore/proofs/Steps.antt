@@ -1,8 +1,8 @@
 -- One more turn of a search.
 use Rattle.std.proofs.Common.{◌≡◌, inl, inr, ℕ, zero, suc, ◌+◌, ◌^◌, ◌<◌, ◌≤◌, Bool, true, false, ◌&&◌, Vec, Global, List, []}
 use Rattle.std.proofs.Common.{◌∷◌, ◌++◌, map, length, take, drop, slice_index_or, Option, None, refl, sym, ap, ◌∙◌, subst, arith, eqb-true, eq-eqb}
-use Rattle.std.proofs.{Common.{append_assoc, append-nil, length-append}, Math.Dec.eqb-suc-zero, lemmas.{Bool.both_ways, List.length-map, Option.slice_get_within}}
-use Rattle.std.specs.Prelude.{◌==◌, Contains, Some, slice_get, Result, Ok, Err, IfOk, OnOk}
+use Rattle.std.proofs.{Common.{append_assoc, append-nil, length-append}, lemmas.{Bool.both_ways, List.length-map, Option.slice_get_within}}
+use Rattle.std.specs.Prelude.{◌==◌, Contains, Some, slice_get}
 use Rattle.std.specs.List.{AllByRecursion, AllZip, flat_map}
 use Rattle.mm_config.specs.declared.configs.{Configs.Configs, Looked.{Looked, TheVariants.{Known, New, Full}}}
 use Rattle.mm_config.specs.{Configurations.{configuration, uncounted}, Keeping.Stands, Machines.{Configs as ConfigsValue, Keeps, AreApart}}
@@ -18,7 +18,7 @@ use Rattle.mm_explore.specs.declared.{findings.Findings.Findings, found.Origin.O
 use Rattle.mm_explore.specs.Laws.{GoesOnAlike}
 use Rattle.mm_explore.proofs.{Coverings.leads_more, Goings.{configurations_go_on, group_bare}, Uncounted.uncounted_again}
 use Rattle.mm_explore.specs.{Moves.moves, Explored.{leads_to, IsLeast, IsExplored, IsAll}, Schedules.Before}
-use Rattle.mm_explore.specs.Findings.{Extension, extended, extensions, explored_turns, IsFinal, are_none}
+use Rattle.mm_explore.specs.Findings.{Extension, extended, extensions, explored_turns, IsFinal}
 use Rattle.mm_explore.specs.{FoundLists.{led_by, with_configs, IsAt, HasKept, Looks}, Noting.{Noted, AreNoted}, Outcomes.{Outcome, End, IsOutcome, Selects, slots_at}}
 use Rattle.mm_explore.specs.Searching.{GoesOn, IsFull, IsChild, IsGraph, Ended, HasCome, IsBefore, IsWithin, schedule_at, turns_before}
 use Rattle.mm_explore.specs.Searching.{turns_from, StaysBy, AllStay, index_of, IsMade, Makes, Met, IsNotedIfFinal}

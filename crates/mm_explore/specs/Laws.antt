@@ -1,5 +1,5 @@
 -- What holds of every exploration.
-use Rattle.std.specs.Prelude.{◌≡◌, ◌↔◌, ◌⊎◌, ℕ, Bool, true, List, [], ◌∷◌, ◌++◌, Contains}
+use Rattle.std.specs.Prelude.{◌≡◌, ◌⊎◌, ℕ, Bool, true, List, [], ◌∷◌, ◌++◌, Contains}
 use Rattle.mm_word.specs.Access.{AccessValue}
 use Rattle.mm_model.specs.{State.State, Image.{Image, start}, Spelling.IsImage, Run.{turn_of, after, run}}
 use Rattle.mm_model.specs.{Trace.{touches, group_in}, Counted.writes}

@@ -1,9 +1,8 @@
 -- Outcomes of final configurations and of endless sets, and the list of them that is told.
 use Rattle.std.specs.Prelude.{◌≡◌, ◌⊎◌, ℕ, ◌+◌, Bool, true, false, ◌&&◌, ◌==◌, nat_eq, if◌then◌else◌, List, [], ◌∷◌, ◌++◌}
-use Rattle.std.specs.{Prelude.{map, slice_get, Some, None}, List.{AllByRecursion, count_by, list_any}}
+use Rattle.std.specs.{Prelude.{map, slice_get}, List.{AllByRecursion, count_by, list_any}}
 use lib.Pointwise.{pointwise}
 use Rattle.mm_config.specs.StateNumbers.{state_number}
-use Rattle.mm_model.specs.declared.slot.SlotState.{SlotState, TheVariants.{Running, Waiting, Taken, Halted}}
 use Rattle.mm_model.specs.{Fits.slots_of, Image.{Image, start}, Report.groups_of, Run.run, Slot.Slot}
 use Rattle.mm_model.specs.State.{output_of}
 use Rattle.mm_explore.specs.declared.explored.Ending.{Ending, TheVariants.{Ended, Stuck, Endless}}

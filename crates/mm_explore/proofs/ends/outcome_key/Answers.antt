@@ -1,4 +1,4 @@
-use Rattle.std.proofs.Common.{◌≡◌, List, ◌∙◌, map, length, refl, sym, ap}
+use Rattle.std.proofs.Common.{List, ◌∙◌, map, length, refl, sym}
 use Rattle.mm_model.specs.{Fits.slots_of, Flags.flags, Slot.Slot, State.output_of}
 use Rattle.mm_explore.specs.Noting.{standings_of, outcome_held}
 use Rattle.mm_explore.proofs.{HeldEnds.standings_long, Tallies.form_joined}

@@ -1,4 +1,4 @@
-use Rattle.std.proofs.Common.{◌≡◌, ◌++◌, ℕ, List, length, map, slice_get, slice_index_or, Some, ap, ◌∙◌, arith}
+use Rattle.std.proofs.Common.{◌≡◌, ◌++◌, map, slice_get, slice_index_or, Some, ap, ◌∙◌, arith}
 use Rattle.std.proofs.lemmas.{List.length-map, Option.{slice_get-map, slice_get-get_or}}
 use Rattle.std.specs.Prelude.{option_map}
 use Rattle.mm_model.specs.State.{output_of}

@@ -1,4 +1,4 @@
-use Rattle.std.proofs.{Common.{◌≡◌, [], map, zip, length, ◌++◌, ◌∙◌, ap, sym, subst}, lemmas.Option.slice_get_within}
+use Rattle.std.proofs.{Common.{[], map, zip, length, ◌++◌, ◌∙◌, ap, subst}, lemmas.Option.slice_get_within}
 use Rattle.mm_model.specs.{Fits.slots_of, Flags.flags, State.output_of}
 use Rattle.mm_explore.specs.{FoundLists.IsAt, Finds.as_output, Noting.standings_of}
 use Rattle.mm_explore.proofs.{HeldEnds.found_is, AllFound.at_index, Steps.{can_put, is_put, is_kept}}

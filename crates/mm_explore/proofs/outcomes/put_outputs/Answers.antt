@@ -1,9 +1,8 @@
-use Rattle.std.proofs.Common.{◌≡◌, ◌++◌, ◌∷◌, [], ℕ, List, length, map, zip, slice_get, slice_index_or, Some, ap, ◌∙◌, arith}
+use Rattle.std.proofs.Common.{◌≡◌, ◌++◌, ◌∷◌, [], ℕ, List, map, zip, slice_get, slice_index_or, Some, ap, ◌∙◌, arith}
 use Rattle.std.proofs.lemmas.{List.length-map, Option.{slice_get-map, slice_get-get_or}, Slice.Zip.length-zip}
 use Rattle.std.specs.Prelude.{option_map}
 use Rattle.indexmap.proofs.ReorderLemmas.{slice_get-zip_some}
 use Rattle.mm_model.specs.State.{output_of}
-use Rattle.mm_thread.specs.Output.{Output}
 use Rattle.mm_explore.{specs.Finds.as_output, proofs.Readings.{one_item, all_items}}
 use Rattle.mm_explore.proofs.outcomes.put_outputs.Goals as goal
 

@@ -1,10 +1,10 @@
-use Rattle.std.proofs.Common.{◌≡◌, ◌++◌, ◌∷◌, [], ℕ, List, length, map, zip, slice_get, Some, sym, ap, ◌∙◌, arith}
+use Rattle.std.proofs.Common.{◌++◌, ◌∷◌, [], ℕ, List, length, map, zip, Some, sym, ap, ◌∙◌, arith}
 use Rattle.std.proofs.lemmas.{List.length-map, Option.slice_get-map, Slice.Zip.length-zip}
 use Rattle.std.specs.Prelude.{option_map}
 use Rattle.indexmap.proofs.ReorderLemmas.{slice_get-zip_some}
 use Rattle.mm_model.specs.{Fits.slots_of, Flags.flags, Slot.Slot}
 use Rattle.mm_explore.specs.{Noting.standings_of, declared.explored.Standing.Standing}
-use Rattle.mm_explore.proofs.{HeldEnds.standings_long, Readings.{one_item, all_items, standing_read, standing_seen, shift_fits}}
+use Rattle.mm_explore.proofs.{Readings.{one_item, all_items, standing_read, standing_seen, shift_fits}}
 use Rattle.mm_explore.proofs.outcomes.put_slots.Goals as goal
 
 pub loop-at-preserved : goal.loop-at-preserved

@@ -1,4 +1,4 @@
-use Rattle.std.proofs.{Common.{ℕ, ◌<◌, ap, arith}, lemmas.Option.get_or_from_slice_get}
+use Rattle.std.proofs.{Common.{◌<◌, ap, arith}, lemmas.Option.get_or_from_slice_get}
 use Rattle.mm_model.{specs.{Fits.slots_of, Slot.Slot}, proofs.CoreRows.each_get}
 use Rattle.mm_thread.proofs.RowIndex.{small_numbers}
 use Rattle.mm_explore.{specs.MoveLists.loaded_item, proofs.Readings.{some_items, all_some}}

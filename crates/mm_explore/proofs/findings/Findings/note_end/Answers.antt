@@ -1,5 +1,5 @@
 use Rattle.mm_explore.specs.Noting.{outcome_held}
-use Rattle.std.proofs.Common.{◌∙◌, sym}
+use Rattle.std.proofs.Common.{sym}
 use Rattle.mm_explore.proofs.Notes.{both_ok, more_ok, ended_next, room_is}
 use Rattle.mm_explore.proofs.findings.Findings.note_end.Goals as goal
 

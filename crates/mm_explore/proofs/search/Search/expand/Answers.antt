@@ -1,4 +1,4 @@
-use Rattle.std.proofs.Common.{◌≡◌, ◌+◌, ◌<◌, length, sym, ap, ◌∙◌, subst}
+use Rattle.std.proofs.Common.{◌+◌, sym, subst}
 use Rattle.mm_explore.specs.{declared.search.Search.Search, Searching.IsBefore}
 use Rattle.mm_explore.proofs.{Notes.more_ok, Steps.all_made}
 use Rattle.mm_explore.proofs.search.Search.expand.Goals as goal

@@ -1,5 +1,4 @@
 use Rattle.std.proofs.Common.{◌≡◌, ◌∙◌, true, false, Result, Ok, Err, IfOk, sym, ap, subst}
-use Rattle.mm_explore.specs.Results.{Results}
 use Rattle.mm_explore.specs.{Explored.{IsExplored, IsAll}, Findings.explored_turns, Finds.Finds, FoundLists.{HasKept}, Noting.Noted}
 use Rattle.mm_explore.specs.declared.search.Search.{Search}
 use Rattle.mm_explore.proofs.Steps.{searched}

@@ -1,4 +1,4 @@
-use Rattle.std.proofs.Common.{◌≡◌, ◌++◌, List, ℕ, refl, sym, ap, ◌∙◌}
+use Rattle.std.proofs.Common.{◌++◌, refl, ap, ◌∙◌}
 use Rattle.mm_model.specs.Fits.{slots_of}
 use Rattle.mm_explore.specs.{MoveLists.moves_in, Searching.schedule_at}
 use Rattle.mm_explore.proofs.{MoveForms.moves_read, Steps.{can_put, is_put, is_kept, none_made}}

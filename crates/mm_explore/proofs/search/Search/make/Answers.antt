@@ -1,4 +1,4 @@
-use Rattle.std.proofs.Common.{◌≡◌, ◌<◌, ◌++◌, ◌∷◌, [], ℕ, nat_eq, List, Option, length, take, refl, sym, ap, subst, arith, slice_index_or}
+use Rattle.std.proofs.Common.{◌≡◌, ◌++◌, ◌∷◌, [], ℕ, nat_eq, List, Option, length, take, refl, sym, ap, subst, arith, slice_index_or}
 use Rattle.mm_model.specs.Image.{Image}
 use Rattle.mm_explore.specs.declared.{findings.Findings.Findings, found.Origin.Origin, search.Search.Search}
 use Rattle.mm_explore.specs.{Findings.Extension, FoundLists.{IsAt, led_by}, Noting.{Noted, AreNoted}, Outcomes.End}

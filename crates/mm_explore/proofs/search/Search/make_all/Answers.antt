@@ -1,4 +1,4 @@
-use Rattle.std.{proofs.Common.{◌≡◌, ◌+◌, ◌<◌, ◌&&◌, List, Vec, ℕ, Global, length, take, sym, ap, ◌∙◌, subst, slice_index_or, arith}, specs.Prelude.Contains}
+use Rattle.std.{proofs.Common.{◌≡◌, ◌+◌, ◌<◌, ◌&&◌, Vec, ℕ, Global, length, take, sym, ap, ◌∙◌, subst, slice_index_or, arith}}
 use Rattle.mm_explore.specs.Searching.{IsWithin, schedule_at, AllStay}
 use Rattle.mm_explore.proofs.Steps.{take_one, take_whole, move_inside, stay_more}
 use Rattle.mm_explore.proofs.search.Search.make_all.Goals as goal

@@ -1,7 +1,5 @@
-use Rattle.std.proofs.Common.{◌≡◌, ◌∙◌, [], sym, ap, refl, subst, length, arith}
-use Rattle.std.specs.{Prelude.{Some, slice_get}}
+use Rattle.std.proofs.Common.{◌∙◌, [], ap, refl, subst, length, arith}
 use Rattle.mm_explore.specs.{Findings.{IsFinal, are_none}, Noting.{outcome_held}, Outcomes.{ending_of}, Searching.{schedule_at, turns_before, turns_from, AllStay}}
-use Rattle.mm_explore.specs.declared.{findings.Findings.Findings, search.Search.Search}
 use Rattle.mm_explore.proofs.{Notes.both_ok, HeldEnds.final_outcome}
 use Rattle.mm_explore.proofs.Steps.{get_inside, final_so, noted_final, not_final, ends_room, list_few, can_put, is_put, is_kept}
 use Rattle.mm_explore.specs.declared.ends.End as code_end

@@ -1,7 +1,7 @@
-use Rattle.std.proofs.Common.{◌≡◌, ◌<◌, [], Some, slice_get, length, refl, sym, ap, ◌∙◌, subst, arith}
+use Rattle.std.proofs.Common.{◌≡◌, [], Some, slice_get, refl, sym, ap, ◌∙◌, subst, arith}
 use Rattle.std.proofs.lemmas.{Map.Iter.{rest_more, rest_all}, Option.slice_get_within}
 use Rattle.std.specs.Map.Iter.{deref_pair}
-use Rattle.mm_explore.specs.{Findings.explored_turns, FoundLists.{IsAt, HasKept}}
+use Rattle.mm_explore.specs.{Findings.explored_turns, FoundLists.{IsAt}}
 use Rattle.mm_explore.specs.declared.{explored.Ending.TheVariants.Endless, search.Search.Search}
 use Rattle.mm_explore.specs.declared.ends.End as code_end
 use Rattle.mm_explore.proofs.{AllFound.at_index, Steps.{list_few, can_put, is_put, is_kept}}

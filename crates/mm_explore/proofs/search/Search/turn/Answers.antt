@@ -1,4 +1,3 @@
-use Rattle.std.proofs.Common.{◌≡◌, sym, ap, ◌∙◌}
 use Rattle.mm_explore.specs.FoundLists.{with_configs}
 use Rattle.mm_explore.specs.Explored.{leads_to}
 use Rattle.mm_explore.specs.Searching.{schedule_at}
