@@ -1,6 +1,6 @@
 -- The sets of a survey are its audit.
 use Rattle.std.proofs.{Common.{◌≡◌, ℕ, ◌%◌, ◌^◌, ◌≤◌, ◌↔◌, inl, inr, List, [], sym, subst, arith}, lemmas.Bool.cases_lt}
-use Rattle.mm_model.specs.{Image.Image, Spelling.IsImage, Reach.{Entries, Grants}, Audit.MaximalSegments}
+use Rattle.mm_model.specs.{Image.Image, Reach.{Entries, Grants}, Audit.MaximalSegments}
 use Rattle.mm_model.specs.declared.word_use.WordUse.{WordUse, TheVariants.{Touch, Write}}
 use Rattle.mm_seg.specs.Segments.{IsSet, Covered}
 use Rattle.mm_audit.specs.{Audits.{Audits, set_of}, GroupSets.AreGroupSets, Spans.can, Surveys.{SurveyValue, Surveys}}

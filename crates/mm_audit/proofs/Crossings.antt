@@ -1,5 +1,5 @@
 -- The least crossing slot, and the mask of groups, with one more.
-use Rattle.std.proofs.Common.{◌≡◌, ◌≢◌, ℕ, ◌+◌, ◌*◌, ◌%◌, ◌^◌, ◌<◌, ◌≤◌, ◌⊎◌, ◌↔◌, inl, inr, min, bit_or, Bool, true}
+use Rattle.std.proofs.Common.{◌≡◌, ℕ, ◌+◌, ◌*◌, ◌%◌, ◌^◌, ◌<◌, ◌≤◌, ◌↔◌, inl, inr, min, bit_or, Bool, true}
 use Rattle.std.proofs.Common.{false, List, Option, Some, None, MatchOption, sym, ap, ◌∙◌, subst, arith}
 use Rattle.std.proofs.lemmas.{Bool.{cases_lt, cases_eq}, Nat.Bits.{bit_at_set_same, bit_at_set_other}}
 use Rattle.std.specs.Int.{bit_at, w64}

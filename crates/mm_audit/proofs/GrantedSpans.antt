@@ -3,7 +3,7 @@ use Rattle.std.proofs.Common.{ℕ, ◌↔◌, List, Bool}
 use Rattle.mm_word.specs.declared.perm.Perm.{Perm}
 use Rattle.mm_model.specs.{Image.Image, Reach.{Entries, Grants, CanTouch, CanWrite}}
 use Rattle.mm_model.specs.Audit.{MaximalSegment, MaximalSegments}
-use Rattle.mm_model.specs.declared.word_use.WordUse.{WordUse, TheVariants.{Touch, Write}}
+use Rattle.mm_model.specs.declared.word_use.WordUse.{TheVariants.{Touch, Write}}
 use Rattle.mm_audit.specs.{declared.{span.Span.Span, shared_words.Meets.Meets}, Spans.AreSpans}
 use Rattle.mm_audit.specs.{Held.{CanUse, IsMaximal, AreMaximal, AreSpansOf, IsTableOf}, Surveys.IsLeastTable}
 

@@ -1,9 +1,9 @@
 -- The spans of marks are those of what groups have, where the marks say who has the pointers of nodes.
-use Rattle.std.proofs.Common.{◌≡◌, ℕ, ◌<◌, ◌≤◌, ◌⊎◌, inl, inr, Bool, true, false, ◌&&◌, nat_le, List, length, slice_index}
+use Rattle.std.proofs.Common.{◌≡◌, ℕ, ◌<◌, ◌≤◌, ◌⊎◌, inl, inr, true, ◌&&◌, nat_le, List, length, slice_index}
 use Rattle.std.proofs.Common.{refl, sym, ap, ◌∙◌, subst, arith}
-use Rattle.std.proofs.lemmas.{Bool.{and_parts, and_from}, Nat.Bits.bit_at-zero}
+use Rattle.std.proofs.lemmas.{Bool.{and_parts, and_from}}
 use Rattle.std.specs.{Int.bit_at, Prelude.All}
-use Rattle.mm_word.specs.declared.perm.{Perm.{Perm, TheVariants.{Key as KeyPerm}}}
+use Rattle.mm_word.specs.declared.perm.{Perm.{TheVariants.{Key as KeyPerm}}}
 use Rattle.mm_word.specs.{Perm.{can_load, can_store}, Pointer.{Pointer, IsBelow, base_of}}
 use Rattle.mm_model.specs.declared.word_use.WordUse.{WordUse, TheVariants.{Touch, Write}}
 use Rattle.mm_flow.specs.{declared.node.{Node.Node, Right.{Right, TheVariants.{Load, Store}}}, Edges.right_at}

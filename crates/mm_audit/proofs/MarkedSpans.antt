@@ -1,7 +1,7 @@
 -- The spans of an exact summary are those of what is granted.
 use Rattle.std.proofs.Common.{◌≡◌, ℕ, ◌<◌, ◌≤◌, ◌↔◌, inl, inr, Bool, true, false, ◌&&◌, nat_le, List, length}
 use Rattle.std.proofs.Common.{slice_index, refl, sym, ap, ◌∙◌, subst, arith, eqb-true, eq-eqb}
-use Rattle.std.proofs.lemmas.{Bool.{and_parts, and_from, Decides.nat_tests}, Nat.Bits.bit_at-zero}
+use Rattle.std.proofs.lemmas.{Bool.{and_parts, and_from}, Nat.Bits.bit_at-zero}
 use Rattle.std.specs.Int.{bit_at}
 use Rattle.mm_word.specs.declared.{perm.{Perm.{Perm, TheVariants.{Ro, Rw, Key as KeyPerm}}}}
 use Rattle.mm_word.specs.{Perm.{can_load, can_store}, Pointer.{Pointer, IsBelow, base_of}}

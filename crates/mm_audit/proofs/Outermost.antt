@@ -1,7 +1,7 @@
 -- The outermost spans of groups are disjoint, and hold all spans of these groups.
 use Rattle.std.proofs.Common.{◌≡◌, ℕ, zero, suc, ◌<◌, ◌≤◌, ◌⊎◌, inl, inr, Bool, true, false, not, ◌==◌, ◌&&◌, nat_le}
 use Rattle.std.proofs.Common.{bit_and, if◌then◌else◌, List, [], ◌∷◌, length, refl, sym, ap, subst, arith, pow_pos}
-use Rattle.std.proofs.lemmas.Bool.{and_parts, leb-true, leb-false, Decides.nat_tests}
+use Rattle.std.proofs.lemmas.Bool.{and_parts, leb-true, leb-false}
 use Rattle.mm_model.specs.declared.word_use.WordUse.{WordUse}
 use Rattle.mm_audit.specs.{declared.span.Span.Span, Spans.{AreInOrder, mask, segment_of, span_at, base_at, end_at}}
 use Rattle.mm_audit.specs.Walks.{is_next, outermost}

@@ -1,7 +1,7 @@
 -- The set of some groups covers what they can touch.
 use Rattle.std.proofs.Common.{◌≡◌, ℕ, zero, suc, ◌%◌, ◌^◌, ◌<◌, ◌≤◌, ◌↔◌, Bool, true, false, ◌&&◌, ◌||◌, nat_le, nat_lt}
 use Rattle.std.proofs.Common.{IsTrue, List, [], ◌∷◌, refl, sym, arith, eqb-true, eq-eqb}
-use Rattle.std.proofs.lemmas.Bool.{and_parts, and_from, leb-true, ltb-true, le-leb, lt-ltb, Decides.nat_tests}
+use Rattle.std.proofs.lemmas.Bool.{and_parts, and_from, leb-true, ltb-true, le-leb, lt-ltb}
 use Rattle.std.specs.Int.{bit_at}
 use Rattle.mm_word.proofs.Segments.{segment_below}
 use Rattle.mm_model.specs.{Image.Image, Spelling.IsImage, Reach.{Entries, Grants, CanTouch, Entries.All}, Worlds.Touchable}

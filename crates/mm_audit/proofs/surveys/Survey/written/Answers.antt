@@ -1,4 +1,4 @@
-use Rattle.std.proofs.Common.{◌≡◌, sym, ap, ◌∙◌, subst}
+use Rattle.std.proofs.Common.{sym, ap, ◌∙◌, subst}
 use Rattle.mm_word.specs.Perm.{can_store}
 use Rattle.mm_model.specs.{Audit.MaximalSegments, declared.word_use.WordUse.TheVariants.Write, Reach.Grants}
 use Rattle.mm_audit.specs.{Surveys.{SurveyValue, Surveys}, Walks.{outermost, outermost_of}}
