@@ -36,8 +36,8 @@ WHY, EXPLORE, KEEPS, LIMITS, HOSTILE = ".ci/why", ".ci/explore", ".ci/keeps", ".
 MM, PICTURES, VIEW, PAGES = ".ci/mm", "docs/pictures/build", "docs/view/build", "examples/check"
 TRUTH, C, HARDWARE, EDITORS, BROWSER = ".ci/truth", ".ci/c", ".ci/hardware", "editors/check", ".ci/view"
 SERVE, CONFORMANCE = ".ci/serve", ".ci/conformance"
-# A module of the tests of `mm`.
-MANY = "-m", "mm.tests", "--jobs", "1", "test_many"
+# Modules of the tests of `mm`.
+MANY, COMMANDS = (("-m", "mm.tests", "--jobs", "1", it) for it in ("test_many", "test_commands"))
 
 # Each body: what it does wrong, the script that has to notice, what it does; and words for that script, with
 # which it is enough.
@@ -100,6 +100,9 @@ BODIES = [
     ("a privileged group is told before a held slot", STATUSES,
      'ran "$@"; line "s/held slot 0/privileged group 0/"; told'),
     ("want of memory is a read fault", STATUSES, 'ran "$@"; if [ "$status" = 5 ]; then end 3 "read fault"; fi; told'),
+    ("a text that does not fit is done", HOSTILE, '[ $# = 0 ] || { "$program" "$@" 2>/dev/null | cat 2>/dev/null; exit 0; }', "--only", "limits"),
+    ("want of memory for a small run is a read fault", HOSTILE,
+     '[ $# = 0 ] || { ran "$@"; [ "$status" != 5 ] || end 3 "read fault"; told; }', "--only", "limits"),
     # Places of faults.
     ("columns begin at 0 after the third line", FAULTS, 'ran "$@"; line "s/ at \\([4-9]\\):1$/ at \\1:0/"; told'),
     ("a word too many is told as too many words of all", FAULTS,
@@ -182,6 +185,8 @@ BODIES = [
      '[ "$1" != debug ] || { ran "$@"; text "s/^stepped [0-9]* /stepped 1 /"; told; }'),
     ("a run that goes on counts nothing", LOG, '[ "$1" != continue ] || { ran "$@"; text "s/^counts .*/counts/"; told; }'),
     ("continue goes a cycle less", LOG, '[ "$1" != continue ] || set -- "$1" "$2" "$3" "$(($4 - 1))"'),
+    ("bytes that are put out have capital digits", ANSWERS, 'ran "$@"; text "/^o /y/abcdef/ABCDEF/"; told', "runs"),
+    ("bytes of 224 and more are others", ANSWERS, '[ "$1" != run ] || { ran "$@"; text "/^o e0/s/e/6/g"; told; }', "runs"),
     ("keeps looks at one thread fewer", ANSWERS, '[ "$1" != keeps ] || set -- "$1" "$2" "$(($3 - 1))" "$4"'),
     ("a derivation names the register after", WHY,
      '[ "$1" != why ] || { ran "$@"; text "s/register \\(.*\\) 5$/register \\1 6/"; told; }'),
@@ -245,8 +250,7 @@ BODIES = [
      '[ "$1" != holders ] || case $4 in 1[4-9]|[2-4][0-9]|5[0-3]) exit 0 ;; esac', *MANY),
     ("a link of four nodes or more brings nothing", MM,
      '[ "$1" != net ] || [ $# -lt 8 ] || { ran "$@"; text "s/^\\(link .*\\) arrived .*/\\1 arrived 0/"; told; }', *MANY),
-    ("a group that stands apart is not told", MM, '[ "$1" != grants ] || { ran "$@"; text "/^apart .* yes/d"; told; }'),
-    ("bytes that are put out have capital digits", MM, 'ran "$@"; text "s/^o 4f/o 4F/"; told'),
+    ("a group that stands apart is not told", MM, '[ "$1" != grants ] || { ran "$@"; text "/^apart .* yes/d"; told; }', *COMMANDS),
     ("a picture's run has a turn fewer", PICTURES, '[ "$1" != trace ] || { ran "$@"; text "1d"; told; }'),
     ("a page's log has a turn fewer", VIEW, '[ "$1" != log ] || { ran "$@"; text "1d"; told; }'),
     ("a page's report has another word", PAGES,

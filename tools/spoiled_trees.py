@@ -1,4 +1,5 @@
-"""Checkouts that are wrong in one place, for tools/spoiled: for scripts of the merge check that run no program.
+"""Checkouts that are wrong in one place, for tools/spoiled: for scripts of the merge check that run no program, and for
+the library that tools/hostile puts before one.
 
 Each has what is wrong, the script with its words, the file, a text that stands there once, and what stands there
 instead. The script has to notice, in a copy of this checkout with this one change."""
