@@ -24,6 +24,8 @@ from mm.cc.pointers import Pointer
 from mm.cc.untranslated import Untranslated
 
 WORD = 8
+# What an integer may have at most; longer ones are left out.
+MOST_BITS = 512
 
 
 class Accesses(Lowering):
@@ -241,8 +243,8 @@ class Accesses(Lowering):
             if isinstance(type_, VectorType) and isinstance(type_.element, IntType) and type_.element.bits < 8:
                 raise Untranslated("a vector of bits in memory")
             return [(size * at, type_.element) for at in range(type_.count)]
-        if isinstance(type_, IntType) and 64 < type_.bits <= 128:
-            return [(0, IntType(64)), (WORD, IntType(type_.bits - 64))]
+        if isinstance(type_, IntType) and 64 < type_.bits <= MOST_BITS:
+            return [(at // 8, IntType(min(64, type_.bits - at))) for at in range(0, type_.bits, 64)]
         raise Untranslated(self.left_out(type_))
 
     @staticmethod

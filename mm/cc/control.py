@@ -14,6 +14,7 @@ from mm.cc.variables import event_of
 from mm.cc.untranslated import Untranslated
 from mm.cc.vectors import has_floats
 from mm.cc.wide import is_plain, is_wide
+from mm.cc.wider import is_wider
 
 
 class Translator(Ends):
@@ -231,6 +232,8 @@ class Translator(Ends):
             super().binary(made)
         elif is_wide(made.type):
             self.wide_binary(made)
+        elif is_wider(made.type):
+            self.wider_binary(made)
         elif isinstance(made.type, VectorType) and not has_floats(made.type):
             self.by_element(made, made.type.element)
         else:
@@ -240,7 +243,7 @@ class Translator(Ends):
         source = made.operands[0].type
         if isinstance(made.type, VectorType):
             self.by_element(made, made.type.element)
-        elif is_wide(made.type) or is_wide(source):
+        elif any(is_wide(type_) or is_wider(type_) for type_ in (made.type, source)):
             self.wide_width(made)
         elif is_plain(made.type) and is_plain(source):
             super().width(made)

@@ -42,6 +42,11 @@ INSTEAD_OF = {"floating point": NO_FLOATS,
               "assembler text": "`mm.h` names the machine's own operations, as `__mm_op_out`"}
 
 
+def instead_of(why: str) -> str:
+    """What can be done in the place of what is left out; nothing if nothing is known."""
+    return next((said for part, said in INSTEAD_OF.items() if part in why), "")
+
+
 def of_headers(said: str) -> Iterator[str]:
     """What can be done in the place of a header that Clang has not found."""
     for name in NO_HEADER.findall(said):

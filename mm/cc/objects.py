@@ -41,7 +41,7 @@ class Objects(Vectors):
         if isinstance(value, Parts):
             return list(value.parts)
         if isinstance(value, Number):
-            return [Number(IntType(64), value.number), Number(IntType(bits_of(value.type) - 64), value.number >> 64)]
+            return [Number(kind, value.number >> 8 * at) for at, kind in self.parts(value.type)]
         if isinstance(value, Expression):
             name = f"?{len(self.groups)}g"
             self.instruction(Instruction(value.op, value.type, name, list(value.parts), source=value.source,

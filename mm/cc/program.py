@@ -12,7 +12,7 @@ from mm.cc.control import Translator
 from mm.cc.ctypes import Types
 from mm.cc.data import Place, Words
 from mm.cc.declared import Declared, contradiction, elsewhere, warning
-from mm.cc.failures import INSTEAD, INSTEAD_OF, ONCE, ONE_MAIN, Failure, Failures, Missing, Repeated
+from mm.cc.failures import INSTEAD, INSTEAD_OF, ONCE, ONE_MAIN, Failure, Failures, Missing, Repeated, instead_of
 from mm.cc.ir import POINTER, WORD, ArrayType, BlockAddress, Function, Global, GlobalObject, IntType, Module, Number, Parts
 from mm.cc.lines import FunctionNotes
 from mm.cc.modulenames import ASSEMBLER, DOOR, EMPTY, SHARED, WIPING, ModuleNames, Segment
@@ -55,8 +55,9 @@ class Program:
         self.repeated: dict[str, Failure] = {}
         # Calls of functions that another file defines with other parameters, or another result.
         self.contradicted: dict[tuple[int, str], str] = {}
-        # What is being translated, for what is found wrong there.
+        # What is being translated, or the global whose value is written, for what is found wrong there.
         self.current: Optional[tuple[ModuleNames, Translator]] = None
+        self.filled: Optional[Segment] = None
         self.types = Types()
         # Doors and shared words of other programs, by their names here.
         self.foreign: set[str] = set()
@@ -260,6 +261,8 @@ class Program:
         if self.current is not None:
             names, translator = self.current
             where, place = self._where(names, translator.function, translator.line)
+        elif self.filled is not None:
+            where, place = self._where_of(self.filled)
         said = INSTEAD.get(name) or elsewhere(name, self.public, [module.name for module in self.modules[:-1]])
         self.undefined[name] = Missing(where, f"`{name}`", place, said)
 
@@ -270,6 +273,11 @@ class Program:
         place = lines.position(location) or lines.of_function(function.debug)
         name = inner if inner != "?" else "main" if function.name in MAINS else function.name
         return f"{names.module.name}: {name}", place
+
+    def _where_of(self, segment: Segment) -> tuple[str, Optional[str]]:
+        """The file and the name in C of a global, and the line where it is declared."""
+        names = self.names[id(segment.module)]
+        return f"{segment.module.name}: {names.told(segment.made)[0]}", names.lines.of_global(segment.made.debug)
 
     def _translated(self, module: Module, name: str) -> tuple[Translator, Code]:
         """The code of a function; a failure if something in it has no translation."""
@@ -290,7 +298,7 @@ class Program:
     def _failed(self, names: ModuleNames, function: Function, location: Optional[str],
                 why: str) -> tuple[str, str, Optional[str], str]:
         where, place = self._where(names, function, location)
-        return where, why, place, next((said for part, said in INSTEAD_OF.items() if part in why), "")
+        return where, why, place, instead_of(why)
 
     def notes(self) -> Iterator[str]:
         """What could not be translated of functions that nothing calls: these are left out, and said so. It is asked
@@ -345,7 +353,15 @@ class Program:
         try:
             words.put(names.constants, value, segment.known.place)
         except Untranslated as reason:
-            raise Failure(f"{segment.module.name}: {segment.made.name}", str(reason)) from None
+            where, place = self._where_of(segment)
+            raise Failure(where, str(reason), place, instead_of(str(reason))) from None
+        self.filled = segment
+        self._wanted_by(words, names)
+        self.filled = None
+
+    @staticmethod
+    def _wanted_by(words: Words, names: ModuleNames) -> None:
+        """Asks for all that the pointers of a global lead to."""
         for place in words.pointers.values():
             target = place.target
             if isinstance(target, BlockAddress):

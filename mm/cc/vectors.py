@@ -9,14 +9,14 @@ from mm.cc.ir import Argument, FloatType, Instruction, Local, Number, Type, Unde
 from mm.cc.pointers import Pointer
 from mm.cc.untranslated import Untranslated
 from mm.cc.wide import WORD_TYPE
-from mm.cc.widecounting import WideCounting
+from mm.cc.wider import Wider
 
 # What becomes of all elements of a vector: an operation, or one of LLVM's functions.
 FOLDED = ("add", "mul", "and", "or", "xor")
 FOLDED_BY_CALL = ("smax", "smin", "umax", "umin")
 
 
-class Vectors(WideCounting):
+class Vectors(Wider):
     """Vectors as their elements."""
 
     def intrinsic(self, made: Instruction, name: str) -> None:

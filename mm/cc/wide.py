@@ -22,6 +22,8 @@ class Wide(Counting):
 
     def pair(self, value: Value, form: str = RAW) -> Pair:
         """The lower and the upper word of a value."""
+        if not is_wide(value.type):
+            raise Untranslated(self.left_out(value.type))
         low, high = self.group(value)
         return self.number(low), self.number(high, form)
 

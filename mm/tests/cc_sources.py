@@ -54,15 +54,21 @@ int main(void)
 """
 # Programs and what they put out, at each level.
 OUTPUTS = {
-    "pointers from the middle of an array": ("27 203 139 8 1\n", """#include <stdio.h>
+    "pointers from the middle of an array": ("27 94 203 203 139 139 5 8 1 237\n", """#include <stdio.h>
 #define FAR __attribute__((noinline))
 FAR int sum(int *mid, long n) { int s = 0; for (int *q = mid - n; q < mid + n; q++) s += *q; return s; }
+FAR int back(int *mid, long n) { int s = 0; int *q = mid + n, *lo = mid - n; while (q > lo) { s = s * 3 + *q; if (s & 1) q--; else q -= 2; } return s; }
 FAR int blur(const int *c, int r) { int s = 0; for (const int *p = c - r; p <= c + r; ++p) s += *p; return s; }
+FAR int far(const int *c, long r) { int s = 0; for (const int *p = c - r; p <= c + r; ++p) s += *p; return s; }
+FAR int ends(const int *c, int r) { int s = 0; const int *lo = c - r, *hi = c + r; for (const int *p = lo; p < hi; ++p) s += *p; return s; }
 FAR int fixed(const int *c) { int s = 0; for (const int *p = c - 3; p < c + 3; ++p) s += *p; return s; }
+FAR int near(const char *c) { const char *b = c; while (b > c - 3 && *b != ' ') b--; const char *e = c; while (e < c + 3 && *e != ' ') e++; return (int)(e - b); }
 FAR long span(const char *mid) { const char *p = mid, *q = mid; while (*p != '(') p--; while (*q != ')') q++; return p < q ? q - p : -1; }
 FAR int scan(const char *mid, const char c) { const char *p = mid; while (*p != '(') p--; for (; p < mid; p++) if (*p == c) return 1; return 0; }
-int main(void) { int a[10], v[11]; for (int i = 0; i < 10; i++) a[i] = i; for (int i = 0; i < 11; i++) v[i] = i * i;
-const char *t = "foo (bar baz) qux"; printf("%d %d %d %ld %d\\n", sum(a + 5, 3), blur(v + 5, 3), fixed(v + 5), span(t + 8), scan(t + 10, 'b')); return 0; }
+FAR int kern(const int *c, const int *w, int n) { int s = 0; const int *p = c - n / 2, *end = p + n; while (p != end) s += *p++ * *w++; return s; }
+int main(void) { int a[10], v[11], w[5] = {1, 2, 3, 2, 1}; for (int i = 0; i < 10; i++) a[i] = i; for (int i = 0; i < 11; i++) v[i] = i * i;
+const char *t = "foo (bar baz) qux"; printf("%d %d %d %d %d ", sum(a + 5, 3), back(a + 5, 3), blur(v + 5, 3), far(v + 5, 3), ends(v + 5, 3));
+printf("%d %d %ld %d %d\\n", fixed(v + 5), near(t + 6), span(t + 8), scan(t + 10, 'b'), kern(v + 5, w, 5)); return 0; }
 """),
     "unsigned sums with a great constant": ("90000001 90010000 cb\n", """#include <stdio.h>
 __attribute__((noinline)) static unsigned long at(unsigned x) { return (x & 0xffff) + 0x90000001u; }
@@ -123,6 +129,16 @@ int main(void) { long r; int i; __int128 w; unsigned __int128 u; signed char c;
          __builtin_sub_overflow((unsigned __int128)most, (unsigned __int128)all, &u), __builtin_add_overflow(most, -1l, &r),
          __builtin_add_overflow((int)most, (short)-200, &c) | __builtin_add_overflow(most, 0l, &i)); return 0; }
 """),
+    "overflows of two of 128 bits, of which one has a sign": ("0 -1 1 -2 0 5 1 1 0 18446744073709551611 0\n", """#include <stdio.h>
+volatile unsigned __int128 few = 3, all = ~(unsigned __int128)0; volatile __int128 least = (__int128)1 << 127, minus = -4;
+int main(void) { __int128 s; unsigned __int128 u; long l; unsigned __int128 five = few + 2;
+  printf("%d ", __builtin_add_overflow(few, minus, &s)); printf("%ld ", (long)s);
+  printf("%d ", __builtin_sub_overflow(all, minus + 5, &s)); printf("%ld ", (long)s);
+  printf("%d ", __builtin_sub_overflow(five, minus + 4, &l)); printf("%ld ", l);
+  printf("%d %d ", __builtin_add_overflow(few, minus, &u), __builtin_mul_overflow(few, least, &s));
+  printf("%d ", __builtin_add_overflow(all, minus, &u)); printf("%lu ", (unsigned long)u);
+  printf("%d\\n", __builtin_sub_overflow(least, minus + 4, &s)); return 0; }
+"""),
     "overflows of an int": ("843014659 3 0 281004886, -2147483648 -2147483648 -1073741824 -8 -1073741824 1, 48 -59 -82\n", """#include <stdio.h>
 static volatile int start = 2147483647, one = 1; static const char *volatile word = "bird";
 int main(void) { int h = 216; for (const char *s = word; *s; s++) h = (h ^ (unsigned char)*s) * 16777619;
@@ -176,6 +192,13 @@ int main(void) { return deep(100000); }
 static int *sp = room + 64;
 static __attribute__((noinline)) void push(int x) { *--sp = x; }
 int main(void) { push(1); return 0; }
+"""),
+    "one past the end of a block, in a structure": (
+        "fault 1 NotPointer at {room}/a.c:3: these are the bits of a pointer, which is now a number: it left its block of malloc "
+        "(16 bytes, handed out at {room}/a.c:4) at {room}/a.c:4 (one past the end is outside)", "1", """#include <stdlib.h>
+struct span { char *begin, *end; };
+static __attribute__((noinline)) int last(struct span *s) { return s->end[-1]; }
+int main(void) { struct span s; s.begin = malloc(16); s.begin[15] = 'p'; s.end = s.begin + 16; return last(&s); }
 """),
     "an array of a length below 0": ("fault 3 Bounds at {room}/a.c:2: of wants more for its variables than any stack has: is the length of an array "
                                      "below 0, or far too great?", "1", """volatile int length = -2;
@@ -272,6 +295,21 @@ int main(void) { int *v = malloc(6 * sizeof *v); for (int i = 0; i <= 6; i++) v[
 """ + HIDE + """int main(void) { char *p = hide(malloc(72)); p[zero - 57] = 1; hide(p); return 0; }
 """),
 }
+# A use of the library over the end of `b`, in line 6, at each level.
+IN_LIBRARY = {
+    "strcpy": "strcpy(b, word);", "strcat": "strcat(b, word);", "memcpy": "memcpy(b, word, count);", "memset": "memset(b, count, 33);",
+    "puts": "memset(b, 'a', 8); puts(b);", "printf": 'memset(b, 65, 8); printf("%s", b);', "sprintf": 'sprintf(b, "%s", word);',
+}
+OVER = """#include <stdio.h>
+#include <string.h>
+char b[8]; const char *volatile word = "eight and more, and more than that"; volatile int count = 33;
+static __attribute__((noinline)) void use(void)
+{
+    USED
+    __asm__ volatile("" : : : "memory");
+}
+int main(void) { use(); return 0; }
+"""
 # With `--quarantine 0`: what each of these does with a pointer to a block that is gone, after USED.
 GONE = """#include <setjmp.h>
 #include <stdio.h>

@@ -2,6 +2,7 @@
 is none."""
 
 import os
+import re
 import shutil
 import subprocess
 import sys
@@ -10,7 +11,7 @@ from unittest import mock
 
 from mm.cc import cache, clang
 from mm.machine.program import CHECKOUT
-from mm.tests.cc_sources import GONE, HELD, OUTPUTS, REFUSED, REVERSED, SAME_NAME, STOPPED, USED
+from mm.tests.cc_sources import GONE, HELD, IN_LIBRARY, OUTPUTS, OVER, REFUSED, REVERSED, SAME_NAME, STOPPED, USED
 from mm.tests.cprograms import Generator
 from mm.tests.cruns import Machine, on_host
 from mm.cc.driver import source_of
@@ -43,6 +44,13 @@ class Programs(unittest.TestCase):
         for title, (wanted, level, text) in STOPPED.items():
             ended, room = self.ran(text, level)
             self.assertIn(wanted.format(room=room), ended.out, f"{title}: {ended.err}")
+
+    def test_functions_of_the_library_have_the_line_of_their_call(self):
+        for name, use in IN_LIBRARY.items():
+            for level in "012":
+                ended, room = self.ran(OVER.replace("USED", use), level)
+                said = rf"slot 0  stopped at \S+ by fault 3 Bounds at {re.escape(room)}/a.c:6, in \w+: b\[8\] of 8 bytes"
+                self.assertRegex(ended.out, said, f"{name} at -O{level}: {ended.err}")
 
     def test_pointers_to_freed_blocks_are_taken_away(self):
         for title, use in USED.items():

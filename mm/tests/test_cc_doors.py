@@ -142,6 +142,44 @@ int main(void)
     return 0;
 }
 """
+# A careless door, which hands out a local that is not set, after another one had pointers of a client there; the second
+# client comes when the first one has gone.
+CARELESS = """#include <mm.h>
+long keep(long *p) MM_DOOR(keep);
+long *oops(void) MM_DOOR(oops);
+static __attribute__((noinline)) long use(long **q) { __asm__ volatile("" : : : "memory"); return *q[3]; }
+long keep(long *p) { long *t[8] = {p, p, p, p, p, p, p, p}; return use(t); }
+long *oops(void) { long *t[8]; long *volatile *v = t; return v[3]; }
+"""
+FIRST = """#include <mm.h>
+long keep(long *p) MM_DOOR(keep);
+MM_THREAD(0, 0, -1);
+static long secret = 4711;
+int main(void) { keep(&secret); return secret != 4711; }
+"""
+SECOND = """#include <mm.h>
+long *oops(void) MM_DOOR(oops);
+MM_THREAD(1, 1, -1);
+int main(void)
+{
+    for (volatile int i = 0; i < 400; i++)
+        ;
+    long *p = oops();
+    __mm_op_out('0' + __mm_op_isptr(p));
+    return *p = 666;
+}
+"""
+# Two programs that each count in a byte of their own of one word, and what helps: a word for each, or to take the word.
+COUNTED = """#include <mm.h>
+SHARED
+MM_THREAD(NUMBER, NUMBER, -1);
+int main(void) { for (int i = 0; i < 100; i++) { COUNT } return 0; }
+"""
+COUNTING = (
+    ("extern volatile char box[8] MM_SHARED(box);", "volatile char box[8] = {0};", "box[NUMBER]++;", False),
+    ("extern volatile long box[2] MM_SHARED(box);", "volatile long box[2] = {0};", "box[NUMBER]++;", True),
+    ("extern long box MM_SHARED(box);", "long box = 0;", "mm_put(&box, mm_take(&box) + (1 << 8 * NUMBER));", True),
+)
 # A door whose parameter goes from one client to another.
 HOLDS = """#include <mm.h>
 void put(long x) MM_DOOR(put);
@@ -205,6 +243,29 @@ class Left(unittest.TestCase):
             for level in "012":
                 form = json.loads(mm("run", "--json", f"-O{level}", *paths).out)
                 self.assertEqual((form["groups"][0]["output"]["text"], left(form)), ("27", []), level)
+
+    @needs_clang
+    def test_a_careless_door_has_nothing_of_another_client(self):
+        with folder() as room:
+            paths = write(room, "serv.c", CARELESS), write(room, "first.c", FIRST), write(room, "second.c", SECOND)
+            for level in "012":
+                form = json.loads(mm("run", "--json", f"-O{level}", "--clang", "-w", *paths).out)
+                first, second = form["slots"]
+                self.assertEqual((first["state"], first["registers"].get("r0"), second["state"]), ("halted", None, "faulted"), level)
+                self.assertEqual([group["output"]["text"] for group in form["groups"]], ["", "0"], level)
+
+    @needs_clang
+    def test_bytes_of_one_word_that_two_programs_count(self):
+        """As the page says of shared words: what another program wrote to the other bytes of a word is lost, and what helps."""
+        for declared, defined, count, all_are_there in COUNTING:
+            with folder() as room:
+                paths = [write(room, f"p{number}.c", COUNTED.replace("SHARED", declared + "\n" + ("" if number else defined))
+                               .replace("COUNT", count).replace("NUMBER", str(number))) for number in (0, 1)]
+                form = json.loads(mm("run", "--json", *paths).out)
+                self.assertEqual([slot["state"] for slot in form["slots"]], ["halted"] * 2, count)
+                box = [cell["word"]["integer"] for cell in form["cells"] if (cell["name"] or "").startswith("box")]
+                numbers = [byte for word in box for byte in word.to_bytes(8, "little") if byte]
+                self.assertEqual(numbers == [100, 100], all_are_there, f"{count} {numbers}")
 
     @needs_clang
     def test_numbers(self):

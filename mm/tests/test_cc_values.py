@@ -12,6 +12,7 @@ from mm.outputs.report import read_report
 from mm.tests.cflows import FLOWS
 from mm.tests.cseldom import SELDOM
 from mm.tests.cvalues import NUMBERS, SUM
+from mm.tests.cwider import programs
 from mm.tests.support import folder, needs_program, write
 from mm.tests.test_cc import source
 
@@ -61,6 +62,12 @@ class Values(unittest.TestCase):
                 slot = self.result(made)
                 found = (slot.state, slot.register(0).bits if slot.register(0) else 0)
                 self.assertEqual(found, ("halted", wanted), f"{title}: {found[1]:x}, {checked}")
+
+    def test_integers_of_more_than_128_bits(self):
+        for number, (title, wanted, text) in enumerate(programs()):
+            slot = self.result(source(text, checked=number % 5 == 4))
+            found = (slot.state, slot.register(0).bits if slot.register(0) else 0)
+            self.assertEqual(found, ("halted", wanted), f"{title}: {found[1]:x}")
 
     def test_the_second_reckoning_takes_operations_of_the_machine(self):
         """Those with a number that is part of them."""
