@@ -184,7 +184,7 @@ fn fetch<M: Memory, W: Watch<M>>(
         return;
     };
     match likely(tables, bits) {
-        Some(instr) => issue(tables, slot_index, mem, access, bits, instr, watch),
+        Some(instr) => carry_on(tables, slot_index, mem, access, bits, instr, watch),
         None => read_on(tables, slot_index, mem, bits, watch),
     }
 }
@@ -192,7 +192,8 @@ fn fetch<M: Memory, W: Watch<M>>(
 /// The instruction of a word, if the machine is not split and the instruction is one that most words spell.
 #[inline(always)]
 fn likely(tables: &Tables, bits: u64) -> Option<Instr>
-    ensures { IfSome result (λ i. instr_of bits ≡ Some i) }
+    ensures spelled { IfSome result (λ i. instr_of bits ≡ Some i) }
+    ensures whole { IfSome result (λ i. tables.now.split ≡ false) }
 {
     if tables.split() { None } else { common(bits) }
 }
@@ -226,7 +227,36 @@ fn read_on<M: Memory, W: Watch<M>>(
     }
 }
 
-/// Goes on with the turn from the instruction.
+/// Goes on with the turn from an instruction of a machine that is not split, in which no register waits for a load. Its
+/// only caller is `fetch`, so that the compiler makes it a part of the loop of cycles: it is too large to be put at two
+/// places.
+#[inline(always)]
+fn carry_on<M: Memory, W: Watch<M>>(
+    tables: &mut Tables,
+    slot_index: usize,
+    mem: &mut M,
+    access: Access,
+    bits: u64,
+    instr: Instr,
+    watch: &mut W,
+)
+    requires can { CanTurn tables.old slot_index }
+    requires whole { tables.old.split ≡ false }
+    requires spelled { instr_of bits ≡ Some instr }
+    requires room { M.uses mem.old < 2 ^ 62 }
+    ensures { (before : M) (u : Use) → TakesUses M.stands before mem.old (u ∷ []) → M.meaning mem.old ≡ M.meaning before
+        → M.uses mem.old ≡ M.uses before + accesses (u ∷ []) → let s = slot_in tables.old slot_index in
+        let m = M.meaning before in
+        TakesTurn M.meaning M.uses M.stands W.tells (W.looks watch.old (told_at tables.old m s (Some instr)))
+        (issued tables.old m s access u instr) before mem.new tables.new watch.new }
+{
+    watch.look(tables, slot_index, mem, Some(instr));
+    let number = tables.slot(slot_index).number;
+    let retired = execute(tables, slot_index, mem, &instr);
+    end::<M, W>(tables, slot_index, bits, retired, number, access, watch);
+}
+
+/// Goes on with the turn from the instruction, whatever the machine and the instruction are.
 #[inline(always)]
 fn issue<M: Memory, W: Watch<M>>(
     tables: &mut Tables,

@@ -43,8 +43,8 @@ returns-in-Some-likely g c =
     let m : Memory = g.M.Memory.meaning a.mem.now in
     let found = fetched-some (cell_at m f.addr) c.in-Some.word (sym c.fetch.ensures.answer ∙ c.in-Some.is) in
     let takes = rw found.1 at c.fetch.ensures.takes in
-    let some : instr_in (found.0).word ≡ Some c.in-Some-likely.instr = ap instr_in (found.2 ∙ c.in-Int.is) ∙ c.in-Some-likely.ensures in
-    rw (found.1, some) (c.issue.ensures a.mem.now (Accessed f.kind f.addr true true) takes c.fetch.ensures.after c.fetch.ensures.count)
+    let some : instr_in (found.0).word ≡ Some c.in-Some-likely.instr = ap instr_in (found.2 ∙ c.in-Int.is) ∙ c.in-Some-likely.ensures.spelled in
+    rw (found.1, some) (c.carry_on.ensures a.mem.now (Accessed f.kind f.addr true true) takes c.fetch.ensures.after c.fetch.ensures.count)
 
 pub returns-in-None : goal.returns-in-None
 returns-in-None g c =
