@@ -4,7 +4,7 @@ use Rattle.std.proofs.Common.{length, take, get_or, slice_get, Option, Some, Non
 use Rattle.std.proofs.lemmas.List.{take_more, length-take-le}
 use Rattle.std.proofs.lemmas.List.Elements.{Contains-append_left, Contains-append_right, Contains-append_cases}
 use Rattle.std.proofs.lemmas.List.Elements.{All-from_recursion, All-contains}
-use Rattle.std.specs.{List.{Contains, flat_map}, Ordering.nat_cmp, FinMap.find}
+use Rattle.std.specs.{List.{Contains}, Ordering.nat_cmp, FinMap.find}
 use Rattle.mm_word.specs.declared.word.Cell.{Cell}
 use Rattle.mm_model.specs.Memory.{Memory, cell_at, cell_in, page_at, page_of, place_of, IsPage, IsPaged}
 use Rattle.mm_model.specs.Image.{Image}

@@ -1,7 +1,7 @@
 -- Groups of the slots of masks, and of nodes.
-use Rattle.std.proofs.Common.{◌≡◌, ◌⊎◌, ◌↔◌, inl, inr, ℕ, ◌+◌, ◌<◌, Bool, true, false, if◌then◌else◌, List, [], ◌∷◌, ◌++◌, length, slice_index, bit_or}
+use Rattle.std.proofs.Common.{◌≡◌, ◌⊎◌, ◌↔◌, inl, inr, ℕ, ◌+◌, ◌<◌, List, [], ◌∷◌, ◌++◌, length, slice_index, bit_or}
 use Rattle.std.proofs.Common.{sym, ap, ◌∙◌, subst, arith, length-append}
-use Rattle.std.specs.{Prelude.Contains, Int.bit_at}
+use Rattle.std.specs.{Int.bit_at}
 use Rattle.mm_model.specs.Slot.{Slot}
 use Rattle.mm_flow.{specs.Flow.Has, proofs.{Bits.{or_left, or_right, or_cases, zero_bit}, SharedMarks.{push_cases, Pushed.{last, before}}}}
 use Rattle.mm_graph.specs.{declared.canonical_ptr.CanonicalPtr.CanonicalPtr, Key.key_at}

@@ -1,15 +1,15 @@
 -- Whether a group holds a door, by the node of the door's key.
-use Rattle.std.proofs.Common.{◌≡◌, ◌↔◌, ◌<◌, ℕ, Bool, true, false, List, length, slice_index, refl, sym, ap, ◌∙◌, subst}
+use Rattle.std.proofs.Common.{◌≡◌, ◌↔◌, ◌<◌, ℕ, Bool, true, List, length, slice_index, sym, ap, ◌∙◌, subst}
 use Rattle.std.proofs.lemmas.List.{get_or_default}
-use Rattle.std.specs.{Prelude.{All, Contains}, Int.bit_at}
+use Rattle.std.specs.{Prelude.{Contains}, Int.bit_at}
 use Rattle.mm_word.specs.{Pointer.Pointer, PointerBits.bits_of-pointer_of}
 use Rattle.mm_model.specs.Image.{Image}
 use Rattle.mm_flow.specs.Flow.{Has}
 use Rattle.mm_graph.specs.{declared.canonical_ptr.CanonicalPtr.CanonicalPtr, Marked.node_pointer}
-use Rattle.mm_graph.specs.Key.{IsKey, IsRising, key_at, key_of, no_key, pointer_at}
+use Rattle.mm_graph.specs.Key.{key_at, key_of, no_key, pointer_at}
 use Rattle.mm_graph.proofs.{EntryMasks.key_of-pointer_at, Rising.same_place}
 use Rattle.mm_kernel.specs.Segments.{Segment}
-use Rattle.mm_hold.specs.Holdings.{AreKeys, AreHoldings, HoldingsValue, HoldsDoor, DoorOf}
+use Rattle.mm_hold.specs.Holdings.{AreKeys, AreHoldings, HoldingsValue, HoldsDoor}
 use Rattle.mm_hold.proofs.Reaching.{holds_small}
 
 module _ (i : Image) (kept : List Segment) (h : HoldingsValue) (k : AreKeys h.keys (length h.doors)) (are : AreHoldings i kept h) (g : ℕ) (d : Pointer) (key : CanonicalPtr)

@@ -1,17 +1,17 @@
 -- The answer whether a group stands apart.
-use Rattle.std.proofs.Common.{◌≡◌, ◌≢◌, ◌↔◌, inl, inr, ℕ, ◌<◌, ◌≤◌, ◌==◌, ◌||◌, Bool, true, false, not, ◌&&◌, if◌then◌else◌, List, [], ◌∷◌, length, Option, Some, None}
+use Rattle.std.proofs.Common.{◌≡◌, ◌≢◌, inl, inr, ℕ, ◌<◌, ◌≤◌, ◌==◌, ◌||◌, Bool, true, false, not, List, [], ◌∷◌, length, Option, Some, None}
 use Rattle.std.proofs.Common.{refl, sym, ap, ◌∙◌, subst, arith, eqb-true, eq-eqb}
 use Rattle.std.proofs.lemmas.{Bool.{cases_lt, and_parts, and_from}, List.{get_or_default, Elements.Contains-get_or}}
 use Rattle.std.specs.{Prelude.Contains, Int.bit_at, List.flat_map}
 use Rattle.mm_word.specs.Pointer.{Pointer}
 use Rattle.mm_model.specs.{Slot.Slot, Image.Image, Groups.among, Spelling.IsImage}
-use Rattle.mm_model.specs.Audit.{Verdict, Verdict.{Yes, Handler, Writer}}
+use Rattle.mm_model.specs.Audit.{Verdict.{Yes, Writer}}
 use Rattle.mm_model.specs.declared.word_use.WordUse.TheVariants.{Touch, Write}
 use Rattle.mm_kernel.specs.{Segments.Segment, Threads.is_kernel}
 use Rattle.mm_audit.specs.declared.{handlers.Served.Served, shared_words.Meets.Meets, apart_groups.Apart.Apart}
 use Rattle.mm_audit.specs.declared.apart_groups.Apart.TheVariants as answers
 use Rattle.mm_audit.specs.{Meeting.{row_at, word_at}, Held.{CanUse, IsTableOf}, Answering.{IsAnswerOf, IsMaskOf}}
-use Rattle.mm_audit.specs.Crossing.{IsCrossing, LeastCrossing, NoCrossing, served_at, verdict_of}
+use Rattle.mm_audit.specs.Crossing.{IsCrossing, NoCrossing, served_at, verdict_of}
 use Rattle.mm_audit.specs.Writers.{IsWord, NoneWith, IsOutside, IsWriter, NoWriter}
 use Rattle.mm_confine.specs.Reach.{Reaches}
 use Rattle.mm_hold.specs.{Reached.{CanTouch, CanWrite}, Apart.{Crosses, WritesIn, Judged}}

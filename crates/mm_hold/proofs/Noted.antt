@@ -1,5 +1,5 @@
 -- What a conduct has noted, deed by deed.
-use Rattle.std.proofs.Common.{◌≡◌, ◌⊎◌, ◌↔◌, inl, inr, ℕ, ◌<◌, List, [], ◌∷◌, ◌++◌, bit_or, refl, sym, ap, ◌∙◌, subst}
+use Rattle.std.proofs.Common.{◌≡◌, ◌⊎◌, ◌↔◌, inl, inr, ℕ, ◌<◌, List, [], ◌∷◌, ◌++◌, bit_or, sym, ap, ◌∙◌, subst}
 use Rattle.std.proofs.lemmas.List.Elements.{Contains-append_left, Contains-append_right, Contains-append_cases}
 use Rattle.std.specs.{Prelude.Contains, Int.bit_at, List.flat_map, BTreeSet.{BTreeSet, insert_key}}
 use Rattle.std.specs.Ordering.{nat_cmp, ordering_then}
@@ -11,7 +11,7 @@ use Rattle.mm_span.proofs.Members.{none_in, in_first, in_cases, in_flat, flat_in
 use Rattle.mm_hold.specs.declared.{deed.Deed.Deed, conduct.Conduct.Conduct}
 use Rattle.mm_hold.specs.Deeds.{Findings, all_deeds}
 use Rattle.mm_hold.specs.Conducts.{AreAll, AreDeeds, AreFindings, Grown, IsRead, IsSpelled, Marks, MarksAll, Notes, NotesFrom, SomeDeed}
-use Rattle.mm_hold.specs.Conducts.{AreConduct, IsNone, origin_numbers, has_in, stored_by, loaded_by, sent_in, given_in}
+use Rattle.mm_hold.specs.Conducts.{AreConduct, origin_numbers, has_in, stored_by, loaded_by, sent_in, given_in}
 use Rattle.mm_hold.specs.Conducts.{sends_in, gives_in, sees_in, goes_in}
 use Rattle.mm_hold.proofs.{Sets.{all_same, all_then, all_as, pair_added, first_added, last_added}, Deeds.deeds_are}
 use Rattle.mm_hold.specs.declared.deed.Deed.TheVariants as deed

@@ -1,15 +1,15 @@
 -- What exact marks say of the groups that reach pointers, and of doors.
-use Rattle.std.proofs.Common.{◌≡◌, ◌⊎◌, ◌↔◌, inl, inr, ℕ, ◌<◌, ◌≤◌, Bool, true, false, ◌&&◌, nat_le, if◌then◌else◌, List, length, slice_index, Some, refl}
+use Rattle.std.proofs.Common.{◌≡◌, ◌⊎◌, ◌↔◌, inl, inr, ℕ, ◌<◌, ◌≤◌, Bool, true, false, if◌then◌else◌, List, length, slice_index, refl}
 use Rattle.std.proofs.Common.{sym, ap, ◌∙◌, subst, arith}
-use Rattle.std.proofs.lemmas.{Bool.and_parts, Nat.Bits.bit_at-zero}
-use Rattle.std.specs.{Prelude.{All, Contains}, Int.bit_at}
+use Rattle.std.proofs.lemmas.{Bool.and_parts}
+use Rattle.std.specs.{Prelude.{Contains}, Int.bit_at}
 use Rattle.mm_word.specs.Pointer.{Pointer}
 use Rattle.mm_model.specs.{Slot.Slot, Image.{Image, slot_limit}, Spelling.{IsImage, IsFresh}}
 use Rattle.mm_model.proofs.CoreRows.{each_contained}
 use Rattle.mm_flow.specs.{declared.node.{Node.Node, Right.TheVariants.{Load, Store}}, Edges.right_at, Flow.Has}
 use Rattle.mm_flow.proofs.Bits.{zero_bit}
 use Rattle.mm_graph.specs.{declared.canonical_ptr.CanonicalPtr.CanonicalPtr, Marked.node_pointer, Summary.IsPowerless}
-use Rattle.mm_graph.specs.Key.{IsKey, key_at, pointer_at, loads_words, stores_words}
+use Rattle.mm_graph.specs.Key.{loads_words, stores_words}
 use Rattle.mm_graph.proofs.Bounds.{three}
 use Rattle.mm_kernel.specs.{Segments.{Segment, is_door}, Derived.Keeps}
 use Rattle.mm_audit.specs.Marks.{IsUsed, kept_mask, span_of}
@@ -20,8 +20,8 @@ use Rattle.mm_confine.specs.Grants.Granted.{runs_itself, runs_through, in_regist
 use Rattle.mm_confine.specs.Grants.Granted.{entered, served, has_exactly, lets_out, kept_for, seen, given, freed}
 use Rattle.mm_confine.specs.Reach.{Reaches, Reaches.{by_callers, by_slot}}
 use Rattle.mm_hold.specs.declared.marks.Marks.{Marks}
-use Rattle.mm_hold.specs.{Marks.Held, Exactly.{Covered, Covered.{powerless, above}}}
-use Rattle.mm_hold.specs.Holdings.{HasGroup, GroupOf, AreReached, AreDoorMarks, AreExact, HoldsDoor, DoorOf, door_mask}
+use Rattle.mm_hold.specs.{Exactly.{Covered, Covered.{powerless, above}}}
+use Rattle.mm_hold.specs.Holdings.{HasGroup, AreReached, AreDoorMarks, AreExact, HoldsDoor, DoorOf}
 use Rattle.mm_hold.proofs.Granting.{granted_covered, door_node}
 
 -- 1. Numbers.

@@ -1,5 +1,5 @@
 -- What is found of who reaches what, and its value.
-use Rattle.std.specs.{Prelude.{◌≡◌, ◌⊎◌, ◌↔◌, ℕ, ◌<◌, Bool, true, false, if◌then◌else◌, List, length, slice_index, Contains, All}, Int.bit_at}
+use Rattle.std.specs.{Prelude.{◌≡◌, ◌⊎◌, ◌↔◌, ℕ, ◌<◌, true, if◌then◌else◌, List, length, slice_index, Contains, All}, Int.bit_at}
 use Rattle.mm_word.specs.Pointer.{Pointer}
 use Rattle.mm_model.specs.{Slot.Slot, Image.Image, Spelling.IsImage}
 use Rattle.mm_flow.specs.{declared.node.{Node.Node, Right.TheVariants.{Load, Store}}, Edges.right_at, Flow.Has}
@@ -7,7 +7,7 @@ use Rattle.mm_graph.specs.{declared.canonical_ptr.CanonicalPtr.CanonicalPtr, Mar
 use Rattle.mm_graph.specs.Key.{IsKey, IsRising, key_at, pointer_at, loads_words, stores_words}
 use Rattle.mm_kernel.specs.{Segments.{Segment, is_door}, Derived.Keeps}
 use Rattle.mm_audit.specs.{Surveys.SurveyValue, Held.{AreSpansOf, IsTableOf}}
-use Rattle.mm_confine.specs.declared.party.Party.TheVariants.{Group, KernelSlot}
+use Rattle.mm_confine.specs.declared.party.Party.TheVariants.{Group}
 use Rattle.mm_confine.specs.{Grants.{Granted, Line.Holds}, Reach.Reaches}
 use Rattle.mm_hold.specs.declared.marks.Marks.{Marks}
 use Rattle.mm_hold.specs.{Marks.{Held, HasSize}, Handlers.served_by_callers, Exactly.{IsSound, IsClosed}}

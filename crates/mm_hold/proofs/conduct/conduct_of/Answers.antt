@@ -1,7 +1,7 @@
-use Rattle.std.proofs.Common.{◌≡◌, ◌↔◌, ℕ, sym, subst}
+use Rattle.std.proofs.Common.{◌↔◌, sym, subst}
 use Rattle.std.proofs.lemmas.Result.{IfOk-weaker}
 use Rattle.std.specs.{Prelude.Contains, List.flat_map}
-use Rattle.mm_model.specs.{Image.Image, Spelling.IsImage}
+use Rattle.mm_model.specs.{Spelling.IsImage}
 use Rattle.mm_hold.specs.declared.conduct.Conduct.{Conduct}
 use Rattle.mm_hold.specs.Deeds.{Findings, all_deeds, carrying_in}
 use Rattle.mm_hold.specs.Conducts.{AreConduct, AreFindings, NotesFrom}

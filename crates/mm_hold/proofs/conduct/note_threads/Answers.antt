@@ -1,4 +1,4 @@
-use Rattle.std.proofs.Common.{◌≤◌, ◌+◌, ◌∷◌, ◌++◌, [], length, take, sym, ap, ◌∙◌, subst, arith}
+use Rattle.std.proofs.Common.{◌+◌, [], take, sym, ap, ◌∙◌, subst, arith}
 use Rattle.std.{proofs.lemmas.List.{take_all, flat_map_more}, specs.List.flat_map}
 use Rattle.mm_hold.specs.{Conducts.Notes, Deeds.thread_deeds}
 use Rattle.mm_hold.proofs.{Noted.{notes_none, notes_more}, Sets.take_got}

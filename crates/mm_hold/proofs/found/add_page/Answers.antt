@@ -1,4 +1,4 @@
-use Rattle.std.proofs.Common.{◌≡◌, ◌+◌, ◌*◌, ◌++◌, subst}
+use Rattle.std.proofs.Common.{◌*◌}
 use Rattle.mm_hold.specs.Finding.{cell_found}
 use Rattle.mm_hold.proofs.CellLists.{cells_put}
 use Rattle.mm_hold.proofs.found.add_page.Goals as goal

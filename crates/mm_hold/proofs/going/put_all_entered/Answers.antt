@@ -1,4 +1,4 @@
-use Rattle.std.proofs.Common.{◌≤◌, length, arith}
+use Rattle.std.proofs.Common.{arith}
 use Rattle.mm_word.specs.Pointer.{Pointer, enter_result}
 use Rattle.mm_hold.specs.Deeds.{entered_by}
 use Rattle.mm_hold.proofs.Listing.{put_more, put_all}

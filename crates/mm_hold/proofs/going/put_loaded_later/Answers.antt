@@ -1,4 +1,4 @@
-use Rattle.std.proofs.Common.{◌≤◌, length, arith}
+use Rattle.std.proofs.Common.{arith}
 use Rattle.mm_hold.specs.Deeds.{loaded_with}
 use Rattle.mm_hold.proofs.Listing.{put_more, put_all}
 use Rattle.mm_hold.proofs.going.put_loaded_later.Goals as goal

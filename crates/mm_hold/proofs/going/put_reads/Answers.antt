@@ -1,4 +1,4 @@
-use Rattle.std.proofs.Common.{◌≤◌, length, arith}
+use Rattle.std.proofs.Common.{arith}
 use Rattle.mm_hold.specs.Deeds.{read}
 use Rattle.mm_hold.proofs.Listing.{put_more, put_all}
 use Rattle.mm_hold.proofs.going.put_reads.Goals as goal

@@ -1,4 +1,3 @@
-use Rattle.std.proofs.lemmas.List.{get_or_default}
 use Rattle.mm_hold.specs.Deeds.{slot_deeds}
 use Rattle.mm_hold.proofs.Listing.{put_next}
 use Rattle.mm_hold.proofs.going.put_slots.Goals as goal

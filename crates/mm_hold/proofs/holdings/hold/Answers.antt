@@ -1,7 +1,6 @@
-use Rattle.std.proofs.Common.{◌≡◌, ◌∙◌, sym, subst}
+use Rattle.std.proofs.Common.{◌∙◌, sym, subst}
 use Rattle.std.specs.Prelude.{Contains}
 use Rattle.mm_model.specs.Spelling.{IsImage}
-use Rattle.mm_kernel.specs.Derived.{HasFirst}
 use Rattle.mm_hold.proofs.CellLists.{first_is}
 use Rattle.mm_hold.proofs.holdings.hold.Goals as goal
 

@@ -1,4 +1,4 @@
-use Rattle.std.proofs.Common.{length, sym, subst}
+use Rattle.std.proofs.Common.{subst}
 use Rattle.mm_hold.specs.Marks.{HasSize}
 use Rattle.mm_hold.proofs.holdings.holdings_by.Goals as goal
 

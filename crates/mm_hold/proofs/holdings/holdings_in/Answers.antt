@@ -1,12 +1,11 @@
-use Rattle.std.proofs.Common.{◌≡◌, ◌<◌, ◌≤◌, ℕ, length, refl, sym, ap, ◌∙◌, subst}
+use Rattle.std.proofs.Common.{length, refl, sym, ap, ◌∙◌, subst}
 use Rattle.std.specs.List.{All}
 use Rattle.mm_model.specs.{Image.Image, Spelling.IsImage}
 use Rattle.mm_graph.specs.Key.{IsKey, IsRising}
-use Rattle.mm_audit.specs.{Marks.SpansOf, Meeting.HaveMet}
 use Rattle.mm_audit.proofs.{HeldSpans.spans_of_marks, LeastTable.least_table}
 use Rattle.mm_confine.specs.Reach.{Reaches}
 use Rattle.mm_hold.specs.Holdings.{AreReached, AreDoorMarks}
-use Rattle.mm_hold.proofs.Reaching.{are_marks, are_doors, reaches_small, whole_words}
+use Rattle.mm_hold.proofs.Reaching.{are_marks, are_doors, reaches_small}
 use Rattle.mm_hold.proofs.holdings.holdings_in.Goals as goal
 
 pub reached-requires : goal.reached-requires

@@ -1,5 +1,5 @@
-use Rattle.std.proofs.Common.{◌≡◌, ◌⊎◌, ◌↔◌, ◌≤◌, ◌+◌, ◌∷◌, ◌++◌, [], length, take, sym, ap, ◌∙◌, subst, arith}
-use Rattle.std.proofs.lemmas.{List.{take_all, flat_map_more}, Iterator.items_from_collect}
+use Rattle.std.proofs.Common.{◌↔◌, ◌+◌, take, sym, subst, arith}
+use Rattle.std.proofs.lemmas.{List.{take_all}, Iterator.items_from_collect}
 use Rattle.std.proofs.lemmas.Iterator.Consumers.{YieldsList-from_copied, YieldsList-at, YieldsList-from_rest}
 use Rattle.std.specs.{Prelude.Contains, List.flat_map}
 use Rattle.mm_hold.specs.{Deeds.carrying_in, Conducts.AreAll}

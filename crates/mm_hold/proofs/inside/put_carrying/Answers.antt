@@ -1,7 +1,6 @@
-use Rattle.std.proofs.Common.{◌≡◌, ◌⊎◌, ◌∷◌, [], if◌then◌else◌, sym, ◌∙◌, ap, subst}
+use Rattle.std.proofs.Common.{◌⊎◌, ◌∷◌, [], if◌then◌else◌, sym, ◌∙◌, ap, subst}
 use Rattle.std.specs.Prelude.{Contains}
-use Rattle.mm_confine.specs.Conduct.{carries}
-use Rattle.mm_hold.specs.{Deeds.carrying_in, Conducts.AreAll}
+use Rattle.mm_hold.specs.{Conducts.AreAll}
 use Rattle.mm_hold.proofs.Sets.{word_added, all_same}
 use Rattle.mm_hold.proofs.inside.put_carrying.Goals as goal
 

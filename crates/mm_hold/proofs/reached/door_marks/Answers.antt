@@ -1,4 +1,4 @@
-use Rattle.std.proofs.Common.{◌≡◌, ◌+◌, [], ◌∷◌, ◌++◌, length, slice_index, sym, ap, ◌∙◌, subst, arith}
+use Rattle.std.proofs.Common.{◌+◌, sym, subst, arith}
 use Rattle.mm_hold.specs.Holdings.{AreDoorMarks}
 use Rattle.mm_hold.proofs.Groups.{doors_none, doors_more}
 use Rattle.mm_hold.proofs.reached.door_marks.Goals as goal

@@ -1,4 +1,4 @@
-use Rattle.std.proofs.Common.{◌≡◌, ◌+◌, sym, ap, ◌∙◌, subst, arith}
+use Rattle.std.proofs.Common.{◌+◌, sym, subst, arith}
 use Rattle.mm_hold.specs.Holdings.{AreReached}
 use Rattle.mm_hold.proofs.Groups.{reached_none, reached_more}
 use Rattle.mm_hold.proofs.reached.reached.Goals as goal

@@ -1,4 +1,4 @@
-use Rattle.std.proofs.Common.{sym, ap}
+use Rattle.std.proofs.Common.{ap}
 use Rattle.mm_model.specs.Slot.{Slot}
 use Rattle.mm_hold.proofs.{Groups.{group_more, group_skip}, PartySets.{mask_as, test_as}}
 use Rattle.mm_hold.proofs.reached.with_group.Goals as goal

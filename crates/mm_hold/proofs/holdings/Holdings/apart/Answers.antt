@@ -1,5 +1,4 @@
-use Rattle.std.proofs.Common.{[], ◌∷◌, sym, subst}
-use Rattle.mm_model.specs.Groups.{among}
+use Rattle.std.proofs.Common.{sym, subst}
 use Rattle.mm_hold.specs.Holdings.{AreHoldings}
 use Rattle.mm_hold.proofs.Judging.{judged}
 use Rattle.mm_hold.proofs.holdings.Holdings.apart.Goals as goal

@@ -1,4 +1,4 @@
-use Rattle.std.proofs.{Common.{◌≡◌, ◌↔◌, ◌<◌, true, false, length, sym, subst, arith}, lemmas.List.get_or_read}
+use Rattle.std.proofs.{Common.{◌≡◌, ◌↔◌, ◌<◌, true, length, sym, subst, arith}, lemmas.List.get_or_read}
 use Rattle.std.specs.{Prelude.Contains, Int.bit_at}
 use Rattle.mm_graph.specs.Key.{key_at}
 use Rattle.mm_hold.specs.Holdings.{AreHoldings, HoldingsValue}

@@ -1,10 +1,10 @@
-use Rattle.std.proofs.Common.{sym, ap, ◌∙◌, subst}
+use Rattle.std.proofs.Common.{sym, subst}
 use Rattle.mm_word.specs.Perm.{can_load}
 use Rattle.mm_model.specs.declared.word_use.WordUse.TheVariants.{Touch}
 use Rattle.mm_audit.specs.Walks.{outermost_of}
 use Rattle.mm_audit.proofs.GroupSegments.{segments_of}
 use Rattle.mm_confine.specs.Reach.{Reaches}
-use Rattle.mm_hold.specs.{Holdings.{AreHoldings, HoldingsValue}, Reached.MaximalSegments}
+use Rattle.mm_hold.specs.{Holdings.{AreHoldings}, Reached.MaximalSegments}
 use Rattle.mm_hold.proofs.{Reaching.reaches_small, Maximal.maximal_reached}
 use Rattle.mm_hold.proofs.holdings.Holdings.touched.Goals as goal
 
