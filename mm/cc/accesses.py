@@ -25,7 +25,7 @@ from mm.cc.untranslated import Untranslated
 
 WORD = 8
 # What an integer may have at most; longer ones are left out.
-MOST_BITS = 512
+MOST_BITS = 1 << 16
 
 
 class Accesses(Lowering):

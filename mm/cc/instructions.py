@@ -17,7 +17,7 @@ from mm.cc.ir import (
     VectorType,
 )
 from mm.cc.reading import BASIC, BINARY, CASTS, FLAGS, FLOAT_CASTS, INT, Reader, bare
-from mm.cc.untranslated import Untranslated
+from mm.cc.untranslated import INSIDE, Untranslated
 
 BITS = {"true": 1, "false": 0}
 
@@ -68,7 +68,7 @@ class InstructionReader(Reader):
             return Instruction(op, self.type(), operands=[operand], words=words)
         handler = getattr(self, "_" + op, None)
         if handler is None:
-            raise Untranslated(f"the operation `{op}`")
+            raise Untranslated(INSIDE if op == "callbr" else f"the operation `{op}`")
         found: Instruction = handler()
         return found
 

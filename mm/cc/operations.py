@@ -9,7 +9,7 @@ from mm.cc.calls import Calls
 from mm.cc.forms import RAW, SIGNED
 from mm.cc.ir import Instruction, IntType, Number, PointerType, Value, VoidType, Zero
 from mm.cc.pointers import Pointer
-from mm.cc.untranslated import Untranslated
+from mm.cc.untranslated import INSIDE, Untranslated
 
 
 class Operations(Calls):
@@ -18,7 +18,7 @@ class Operations(Calls):
     def assembler(self, made: Instruction) -> None:
         text, constraints, _ = made.callee
         if text.strip():
-            raise Untranslated("assembler text inside of a function")
+            raise Untranslated(INSIDE)
         parts = [part for part in constraints.split(",") if not part.startswith("~")]
         outputs = [part for part in parts if part.startswith("=")]
         direct = [part for part in outputs if "*" not in part]

@@ -139,6 +139,13 @@ int main(void) { __int128 s; unsigned __int128 u; long l; unsigned __int128 five
   printf("%d ", __builtin_add_overflow(all, minus, &u)); printf("%lu ", (unsigned long)u);
   printf("%d\\n", __builtin_sub_overflow(least, minus + 4, &s)); return 0; }
 """),
+    "long rows of bit-fields": ("7 -7 7000 -8 292 300 7000\n", """#include <stdio.h>
+struct many { int a : 31, b : 31, c : 31, d : 31, e : 31, f : 31, g : 31, h : 31, i : 31, j : 31, k : 31, l : 31, m : 31, n : 31, o : 31, p : 31, q : 31;
+  unsigned r : 7, s : 9, t : 16; };
+static struct many m; volatile int seven = 7;
+int main(void) { m.a = seven; m.j = -seven; m.q = seven * 1000; m.m = m.j - 1; m.s = 300; m.t = m.q; struct many n = m; n.p = m.m + n.s;
+  printf("%d %d %d %d %d %d %d\\n", n.a, n.j, n.q, n.m, n.p, n.s, n.t); return 0; }
+"""),
     "overflows of an int": ("843014659 3 0 281004886, -2147483648 -2147483648 -1073741824 -8 -1073741824 1, 48 -59 -82\n", """#include <stdio.h>
 static volatile int start = 2147483647, one = 1; static const char *volatile word = "bird";
 int main(void) { int h = 216; for (const char *s = word; *s; s++) h = (h ^ (unsigned char)*s) * 16777619;
@@ -389,6 +396,16 @@ REFUSED = {
     "floating point": (["{room}/a.c:1:58: error: floating point is left out in `area`"],
                        "static int area(int r) { volatile int d; d = (int)(3.1 * r); return d; }\n"
                        "int main(int n, char **v) { return area(n) > 3; }\n"),
+    "assembler with places to go to": (["{room}/a.c:1: error: assembler text inside of a function is left out in `main`",
+                                        "    `mm.h` names the machine's own operations, as `__mm_op_out`"],
+                                       'int main(void) { __asm__ goto ("jmp %l0" : : : : out); return 1; out: return 2; }\n'),
+    "a table of functions of another file": (["{room}/a.c:2: error: `nothing` is used in `table`, and nothing defines it",
+                                              "    if another file defines `nothing`, name that too: `mm cc {room}/a.c FILE.c > SOURCE.asm`"],
+                                             "int nothing(int n);\nstatic int (*const table[])(int) = {0, nothing};\n"
+                                             "int main(int n, char **v) { return table[n](n); }\n"),
+    "a table with floating point": (["{room}/a.c:1: error: floating point is left out in `table`", "    count in integers"],
+                                    "static struct { int n; double d; } table[] = {{1, 1.5}, {2, 2.5}};\n"
+                                    "int main(int n, char **v) { return table[n].n; }\n"),
     "assembler": (["mm: {room}/a.c: assembler text outside of functions is left out"],
                   '__asm__(".globl x");\nint main(void) { return 0; }\n'),
     "many segments": (["mm: the program: more than 256 segments: it has "],

@@ -153,11 +153,17 @@ static void c63(void) { long a[4], b[4]; long *p = hide(a), *q = hide(b); sink =
 static void c64(void) { long a[4] = {1, 2, 3, 4}; long *volatile end = a + 4; sink = end[-1]; }
 /* valid: one past the end, computed and moved back in one function */
 static void c65(void) { long a[4] = {1, 2, 3, 4}; long *p = hide(a), *end = p + at(4); while (end > p) sink += *--end; }
+/* a link of the list of free blocks, by a load after `free` */
+static void c66(void) { long **a = hide(malloc(16)), **b = hide(malloc(16)); free(hide(a)); free(hide(b)); long *link = b[0]; link[0] = 1; }
+/* `printf` of a pointer as an `int` */
+static void c67(void) { long x = 1; printf((char *)hide("%d\n"), hide(&x)); }
+/* valid: a pointer loaded and stored as a number */
+static void c68(void) { struct { long a; void *p; } s = {1, 0}; s.p = hide(&s); long *q = hide(&s.p); *q = *q; sink = *(long *)s.p; }
 
 static void (*const cases[])(void) = {
     0, c1, c2, c3, c4, c5, c6, c7, c8, c9, c10, c11, c12, c13, c14, c15, c16, c17, c18, c19, c20, c21, c22, c23, c24, c25,
     c26, c27, c28, c29, c30, c31, c32, c33, c34, c35, c36, c37, c38, c39, c40, c41, c42, c43, c44, c45, c46, c47, c48, c49,
-    c50, c51, c52, c53, c54, c55, c56, c57, c58, c59, c60, c61, c62, c63, c64, c65,
+    c50, c51, c52, c53, c54, c55, c56, c57, c58, c59, c60, c61, c62, c63, c64, c65, c66, c67, c68,
 };
 
 /* 3 where a case says that nothing came of it, else 0. */
