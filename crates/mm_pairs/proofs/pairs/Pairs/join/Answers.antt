@@ -8,7 +8,7 @@ pub invariant_of-self-2 : goal.invariant_of-self-2
 invariant_of-self-2 c =
     all_more same_pair (λ (p : ℕ × ℕ). p) (0, 0) (λ p. p ≡ (0, 0) → ⊥) c.self.inside.pairs.keys c.insert_full.new.self.keys (c.args.left, c.args.right) c.in_ok-at.ensures.keys c.self.invariant
     (λ e. elim c.else-left-eq0.branch [
-      else-left-eq0-via-then-left-eq0+else-right-eq0 w ↦ w.if-right-eq0.false (ap (λ x. x.1) e)
+      | else-left-eq0-via-then-left-eq0+else-right-eq0 w ↦ w.if-right-eq0.false (ap (λ x. x.1) e)
       | else-left-eq0-via-else-left-eq0 w ↦ w.if-left-eq0.false (ap (λ x. x.0) e)
     ])
 
