@@ -1,10 +1,9 @@
 -- What is found is kept.
-use Rattle.std.proofs.Common.{◌≡◌, ℕ, true, List, [], Option, Result, Ok, Err, IfOk, sym, subst}
+use Rattle.std.proofs.Common.{◌≡◌, ℕ, true, List, [], Result, Ok, Err, IfOk, sym, subst}
 use Rattle.std.specs.Prelude.{Contains}
 use Rattle.mm_model.specs.Image.{Image}
 use Rattle.mm_kernel.specs.{Segments.{Segment, is_user}, Derived.Keeps, Uses.HasAtMost}
 use Rattle.mm_span.proofs.Members.{none_in}
-use Rattle.mm_keep_text.specs.declared.told.Answer.{Answer, TheVariants.Found}
 use Rattle.mm_keep_text.specs.{Told.Told, Answers.{IsAnswer, IsTold}}
 use Rattle.mm_confine_text.specs.declared.kept.Kept.{Kept}
 use Rattle.mm_confine_text.specs.Found.{IsFound, IsKept, IsReach}

@@ -2,7 +2,7 @@
 use Rattle.std.proofs.Common.{◌≡◌, ℕ, Bool, true, false, ◌&&◌, ◌==◌, cond, if◌then◌else◌, List, [], ◌∷◌, ◌++◌, map, refl, sym, ap, ◌∙◌, subst, append-nil}
 use Rattle.std.proofs.Common.{◌+◌, ◌<◌, length, take, get_or}
 use Rattle.std.proofs.lemmas.List.{map-append, flat_map_more, take_more}
-use Rattle.std.specs.List.{AllByRecursion, filter, flat_map}
+use Rattle.std.specs.List.{filter, flat_map}
 use Rattle.mm_model.specs.{Slot.Slot, Image.Image}
 use Rattle.mm_kernel.specs.{Segments.Segment, Threads.is_kernel_slot}
 use Rattle.mm_kernel.proofs.Ups.{each_join}

@@ -1,17 +1,17 @@
 -- The text is determined by the image, its kept segments and the limit.
-use Rattle.std.proofs.Common.{◌≡◌, ◌↔◌, inl, inr, ℕ, ◌<◌, ◌≤◌, Bool, List, [], ◌∷◌, ◌++◌, map, zip, drop, refl, sym, ap, ◌∙◌, subst, arith}
+use Rattle.std.proofs.Common.{◌≡◌, inl, inr, ℕ, ◌<◌, Bool, List, [], ◌∷◌, ◌++◌, zip, drop, refl, sym, ap, ◌∙◌, subst, arith}
 use Rattle.std.specs.{Prelude.Contains, List.{AllByRecursion, flat_map}}
-use Rattle.mm_word.specs.{Perm.{can_load, can_store}, declared.perm.Perm.Perm, Pointer.Pointer}
+use Rattle.mm_word.specs.{Perm.{can_load, can_store}, declared.perm.Perm.Perm}
 use Rattle.mm_model.specs.{Image.{Image, start}, Report.groups_of, Audit.{Verdict, Verdict.{Yes, Handler, Writer}, segment_line, apart_line}}
 use Rattle.mm_model.specs.declared.word_use.WordUse.TheVariants.{Touch, Write}
 use Rattle.mm_kernel.specs.{Segments.Segment, declared.fact.Leak.Leak}
-use Rattle.mm_span.proofs.Members.{none_in, in_first, in_rest, in_cases, all_at}
+use Rattle.mm_span.proofs.Members.{none_in, in_first, in_rest, in_cases}
 use Rattle.mm_keep_text.specs.declared.told.Answer.{Answer, TheVariants.{Privileged, More, Found}}
-use Rattle.mm_keep_text.specs.{Told.Told, Keys.pointer_key, Answers.{IsAnswer, answer_text}}
+use Rattle.mm_keep_text.specs.{Told.Told, Keys.pointer_key, Answers.{IsAnswer}}
 use Rattle.mm_keep_text.proofs.Ones.{answers_are_one, told_one, lists_one, not_at_most, not_user}
-use Rattle.mm_hold.specs.{Reached.{MaximalSegments, MaximalSegment}, Apart.{Judged, WritesIn}}
+use Rattle.mm_hold.specs.{Reached.{MaximalSegments}, Apart.{Judged, WritesIn}}
 use Rattle.mm_confine_text.specs.Found.{slots_of_kernel}
-use Rattle.mm_confine_text.specs.Told.{AreGroups, GroupsIf, GroupText, GroupTexts, GroupTexts.{no_group, group}, Tells}
+use Rattle.mm_confine_text.specs.Told.{AreGroups, GroupsIf, GroupText, GroupTexts, GroupTexts.{no_group, group}}
 use Rattle.mm_confine_text.specs.Told.{group_line, door_line, slot_line}
 use Rattle.mm_confine_text.specs.Laws.{TextsAreOne}
 

@@ -1,18 +1,17 @@
 -- The text of groups, one group after the other, and the doors that they hold.
-use Rattle.std.proofs.Common.{◌≡◌, ◌⊎◌, ◌↔◌, inl, inr, ℕ, ◌+◌, ◌<◌, List, [], ◌∷◌, ◌++◌, map, length, take, get_or, Option, Some, None, refl, sym, ap}
+use Rattle.std.proofs.Common.{◌≡◌, inl, inr, ℕ, ◌+◌, ◌<◌, List, [], ◌∷◌, ◌++◌, map, length, take, get_or, Some, None, refl, sym, ap}
 use Rattle.std.proofs.Common.{◌∙◌, subst, append_assoc, append-nil}
 use Rattle.std.proofs.lemmas.List.{take_more, map-append}
 use Rattle.std.specs.{Prelude.Contains, List.{AllByRecursion, AllZip}}
-use Rattle.mm_word.specs.{Pointer.Pointer, declared.word.Word.TheVariants.Ptr}
+use Rattle.mm_word.specs.{Pointer.Pointer}
 use Rattle.mm_model.specs.Image.{Image}
 use Rattle.mm_kernel.specs.Segments.{Segment}
 use Rattle.mm_kernel.specs.declared.thread.Origin.{Origin, TheVariants.{Door, Slot as OfSlot}}
-use Rattle.mm_kernel.specs.{Facts.Fact.HasDoor, Derived.Derived}
 use Rattle.mm_span.proofs.Members.{none_in, in_first, in_rest, in_cases, all_at}
 use Rattle.mm_span.specs.Pairs.{EachPair}
 use Rattle.mm_kernel.specs.declared.fact.Leak.{Leak}
 use Rattle.mm_keep_text.specs.declared.told.Answer.{Answer, TheVariants.{Privileged, More, Found}}
-use Rattle.mm_keep_text.specs.{Told.{Party, Told}, Keys.{pointer_key, Ascend}, Answers.{IsAnswer, IsParty, IsTold, AreDoors, kernel_slots}}
+use Rattle.mm_keep_text.specs.{Told.{Party, Told}, Answers.{IsAnswer, IsParty, IsTold, kernel_slots}}
 use Rattle.mm_confine.proofs.Open.{granted_is_open}
 use Rattle.mm_confine.specs.declared.party.Party.TheVariants.{Group as GroupParty}
 use Rattle.mm_hold.specs.Holdings.{AreHoldings, HoldsDoor, HoldingsValue}

@@ -5,7 +5,7 @@ use Rattle.mm_word.specs.Pointer.{Pointer}
 use Rattle.mm_model.specs.{Slot.Slot, Image.{Image, start}, Report.groups_of}
 use Rattle.mm_kernel.specs.{Segments.Segment, Threads.is_kernel_slot, declared.fact.Leak.Leak}
 use Rattle.mm_kernel.specs.declared.thread.Origin.{Origin, TheVariants.{Door, Slot as OfSlot}}
-use Rattle.mm_keep_text.specs.declared.told.Answer.{Answer, TheVariants.{Privileged, More, Found}}
+use Rattle.mm_keep_text.specs.declared.told.Answer.{Answer, TheVariants.{Found}}
 use Rattle.mm_keep_text.specs.{Told.Told, Answers.{IsAnswer, IsTold}}
 use Rattle.mm_hold.specs.Holdings.{AreHoldings, HoldsDoor}
 use Rattle.mm_confine_text.specs.declared.kept.{Group.Group, Reach.Reach, Kept.Kept}

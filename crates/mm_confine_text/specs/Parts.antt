@@ -1,5 +1,5 @@
 -- The parts of the text of groups.
-use Rattle.std.specs.Prelude.{◌≡◌, ℕ, List, ◌++◌, map, decimal}
+use Rattle.std.specs.Prelude.{ℕ, List, ◌++◌, map, decimal}
 use Rattle.std.specs.List.{AllZip}
 use Rattle.mm_word.specs.Pointer.{Pointer}
 use Rattle.mm_model.specs.{Image.Image, Lines.newline}

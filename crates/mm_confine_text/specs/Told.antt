@@ -5,7 +5,7 @@ use Rattle.mm_word.specs.{Perm.{can_load, can_store}, Pointer.Pointer, declared.
 use Rattle.mm_model.specs.{declared.word_use.WordUse.TheVariants.{Touch, Write}, Lines.{newline, word_text}}
 use Rattle.mm_model.specs.{Image.{Image, start}, Report.groups_of, Audit.{Verdict, segment_line, apart_line}}
 use Rattle.mm_kernel.specs.{Segments.Segment, declared.fact.Leak.Leak}
-use Rattle.mm_keep_text.specs.declared.told.Answer.{Answer, TheVariants.{Privileged, More, Found}}
+use Rattle.mm_keep_text.specs.declared.told.Answer.{Answer, TheVariants.{Found}}
 use Rattle.mm_keep_text.specs.{Keys.{pointer_key, Ascend}, Answers.{IsAnswer, answer_text}}
 use Rattle.mm_hold.specs.{Holdings.HoldsDoor, Reached.MaximalSegments, Apart.Judged}
 use Rattle.mm_confine_text.specs.Found.{slots_of_kernel}

@@ -1,4 +1,4 @@
-use Rattle.std.{proofs.Common.{length, ◌≤◌, subst}, specs.Prelude.{IfSome, IfOk}}
+use Rattle.std.{proofs.Common.{length, ◌≤◌, subst}, specs.Prelude.{IfSome}}
 use Rattle.mm_kernel.specs.Facts.Fact.{HasThread}
 use Rattle.mm_keep.specs.{Claims.Tables, Searching.IsExact}
 use Rattle.mm_confine_text.proofs.Answering.{found_kept}

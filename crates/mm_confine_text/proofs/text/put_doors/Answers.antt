@@ -1,5 +1,5 @@
-use Rattle.std.proofs.Common.{rules, ◌++◌, ◌+◌, [], ◌∷◌, take, refl, sym, ap, subst}
-use Rattle.std.{proofs.lemmas.{Grind.flat_map-append, List.take_all}, specs.List.flat_map}
+use Rattle.std.proofs.Common.{rules, ◌++◌, [], ◌∷◌, take, refl, sym, ap, subst}
+use Rattle.std.{proofs.lemmas.{Grind.flat_map-append, List.take_all}}
 use Rattle.mm_text.proofs.Appending.{appends_then, appends_same}
 use Rattle.mm_kernel.specs.declared.thread.Origin.{Origin}
 use Rattle.mm_keep_text.specs.Told.{Party}

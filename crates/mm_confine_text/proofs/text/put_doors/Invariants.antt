@@ -1,4 +1,4 @@
-use Rattle.std.{proofs.Common.{List, ℕ, take}, specs.List.flat_map}
+use Rattle.std.{proofs.Common.{List, take}, specs.List.flat_map}
 use Rattle.mm_word.specs.Pointer.{Pointer}
 use Rattle.mm_model.specs.Image.{Image}
 use Rattle.mm_text.specs.Appends.{Appends}

@@ -1,4 +1,4 @@
-use Rattle.std.{proofs.Common.{◌++◌, [], ◌∷◌, sym, ap, ◌∙◌, subst}, specs.List.flat_map}
+use Rattle.std.{proofs.Common.{◌++◌, [], ◌∷◌, ap, ◌∙◌}, specs.List.flat_map}
 use Rattle.mm_model.specs.{declared.word_use.WordUse.TheVariants.{Touch, Write}, Audit.{segment_line, apart_line}}
 use Rattle.mm_text.proofs.Appending.{appends_then}
 use Rattle.mm_audit.specs.Crossing.{verdict_of}

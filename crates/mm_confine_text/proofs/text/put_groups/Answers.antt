@@ -1,4 +1,4 @@
-use Rattle.std.proofs.Common.{rules, ◌++◌, [], take, subst}
+use Rattle.std.proofs.Common.{rules, ◌++◌, [], subst}
 use Rattle.std.proofs.lemmas.List.{take_all}
 use Rattle.mm_text.proofs.Appending.{appends_then}
 use Rattle.mm_confine_text.specs.{Found.numbers_of, Told.{GroupTexts, GroupTexts.no_group}}

@@ -1,7 +1,7 @@
-use Rattle.std.proofs.Common.{rules, [], sym, ap, subst}
+use Rattle.std.proofs.Common.{sym, ap, subst}
 use Rattle.mm_keep_text.specs.Told.{Told}
 use Rattle.mm_confine_text.specs.Parts.{AreParties}
-use Rattle.mm_confine_text.proofs.Texts.{found_reached, none_found, more_found}
+use Rattle.mm_confine_text.proofs.Texts.{found_reached}
 use Rattle.mm_confine_text.proofs.text.put_reach.Goals as goal
 
 pub returns-in-Found : goal.returns-in-Found

@@ -1,4 +1,4 @@
-use Rattle.std.proofs.Common.{rules, [], sym, subst}
+use Rattle.std.proofs.Common.{rules, [], subst}
 use Rattle.mm_confine_text.specs.Found.{IsReach}
 use Rattle.mm_confine_text.proofs.Texts.{none_reached}
 use Rattle.mm_confine_text.proofs.text.put_reach_if.Goals as goal
