@@ -103,7 +103,8 @@ class Calls(Arithmetic):
         for argument in arguments:
             type_ = self.layouts.plain(argument.value.type)
             if not isinstance(type_, (PointerType, IntType)) or bits_of(type_) > 64:
-                raise Untranslated(self.left_out(type_))
+                said = self.left_out(type_)
+                raise Untranslated(f"{said} among variable arguments" if isinstance(type_, IntType) else said)
             size = max(4, self.layouts.size(type_))
             at = -(-at // size) * size
             placed.append((at, size, argument))

@@ -17,6 +17,13 @@ BROKEN = (
     ("mm/cc/wide.py", 'self.give_pair(made.name, made.type, low, self.op("add", self.op("add", b, d), carry))',
      'self.give_pair(made.name, made.type, low, self.op("add", b, d))', VALUES),
     ("mm/cc/wide.py", 'return self.op("or", self.op(op, one[1], other[1]), lower)', "return self.op(op, one[1], other[1])", VALUES),
+    ("mm/cc/wider.py", 'over = self.op("ltu", first, a) if op == "add" else self.op("ltu", a, b)', 'over = self.op("ltu", first, a)', VALUES),
+    ("mm/cc/wider.py", 'first, over = second, self.op("or", over, again)', "first, over = second, again", VALUES),
+    ("mm/cc/wider.py", "if by in (0, HALF):", "if by == HALF:", VALUES),
+    ("mm/cc/wider.py", 'count = count_of(2 * bits) if op == "mul" else count_of(bits + 1)', "count = count_of(bits + 1)", VALUES),
+    ("mm/cc/wider.py", "for word in words[last + 1:]:", "for word in words[last + 2:]:", VALUES),
+    ("mm/cc/wider.py", '"lts" if is_signed and at == len(one) else "ltu"', '"ltu"', VALUES),
+    ("mm/cc/wider.py", 'less = self.op("or", here, self.op("and", self.op("eq", a, b), less))', 'less = self.op("or", here, less)', VALUES),
     # Memory.
     ("mm/cc/code.py", "return ((1 << log) - max(size, 1)) // align * align if at_end else 0",
      "return ((1 << log) - max(size, 1)) // min(align, 8) * min(align, 8) if at_end else 0", VALUES),
@@ -53,6 +60,9 @@ BROKEN = (
     ("mm/cc/runtime/general.c", "(number)LONG_MAX + found.negative", "(number)LONG_MAX", LIBRARY),
     ("mm/cc/runtime/general.c", "size_t low = 0, high = count;", "size_t low = 0, high = count > 8 ? 8 : count;", LIBRARY),
     ("mm/cc/runtime/general.c", "low = middle + 1;", "low = middle + 2;", LIBRARY),
+    # What is said.
+    ("mm/cc/program.py", "elif self.filled is not None:", "elif False:", CLANG),
+    ("mm/cc/program.py", "place, instead_of(str(reason))) from None", "None) from None", CLANG),
     # The ends of blocks, calls, and what is written.
     ("mm/cc/ends.py", "pairs = [(d, kept if a == first else a) for d, a in pairs]", "pairs = pairs[1:]", VALUES),
     ("mm/cc/ends.py", 'inside = self.op("ltu", at, self.constant(most - least + 1))', 'inside = self.op("ltu", at, self.constant(most - least))',

@@ -403,6 +403,9 @@ REFUSED = {
                                               "    if another file defines `nothing`, name that too: `mm cc {room}/a.c FILE.c > SOURCE.asm`"],
                                              "int nothing(int n);\nstatic int (*const table[])(int) = {0, nothing};\n"
                                              "int main(int n, char **v) { return table[n](n); }\n"),
+    "a variable argument of 128 bits": (["{room}/a.c:3:25: error: an integer of 128 bits among variable arguments is left out in `main`"],
+                                        "static volatile __int128 x;\nint any(int n, ...) { return n; }\n"
+                                        "int main(void) { return any(1, x); }\n"),
     "a table with floating point": (["{room}/a.c:1: error: floating point is left out in `table`", "    count in integers"],
                                     "static struct { int n; double d; } table[] = {{1, 1.5}, {2, 2.5}};\n"
                                     "int main(int n, char **v) { return table[n].n; }\n"),

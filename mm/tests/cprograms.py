@@ -203,7 +203,7 @@ NOINLINE ul sum_{made.name}(const struct {made.name} *p) {{ ul h = 1; {sums} ret
         """A sum, a difference or a product that tells whether it fits."""
         type_ = self.any_type()
         # Two of 128 bits, of which one has a sign, want 129.
-        first, second = (self.random.choice(WIDE) if type_ in WIDE else self.type() for _ in range(2))
+        first, second = (self.random.choice(list(WIDE)) if type_ in WIDE else self.type() for _ in range(2))
         op = self.random.choice(("add", "sub", "mul"))
         return (f"{{ {type_} r; h = h * 47 + __builtin_{op}_overflow(({first}){self.expression(1)}, "
                 f"({second}){self.expression(1)}, &r); h = h * 3 + (ul)r; }}")

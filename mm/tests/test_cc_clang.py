@@ -40,6 +40,13 @@ class Programs(unittest.TestCase):
                 ended, _ = self.ran(text, level)
                 self.assertIn(f'output "{repr(wanted)[1:-1]}"', ended.out, f"{title} at -O{level}: {ended.err}")
 
+    def test_outputs_with_a_second_reckoning_of_each_value(self):
+        for number, (title, (wanted, text)) in enumerate(OUTPUTS.items()):
+            with folder() as room:
+                made = source_of([write(room, "a.c", text)], Options("012"[number % 3], ["-w"], lines=False, checked=True))
+                ended, why = Machine(find_program(), room).run(made)
+                self.assertEqual((why, ended and ended.output.decode()), ("", wanted), title)
+
     def test_stopped(self):
         for title, (wanted, level, text) in STOPPED.items():
             ended, room = self.ran(text, level)
