@@ -55,7 +55,7 @@ impl Parties {
 
 /// Whether two sets are one.
 pub fn same(a: Parties, b: Parties) -> bool
-    ensures { result ≡ true → a ≡ b }
+    ensures { (result ≡ true) ↔ (a ≡ b) }
 {
     a.groups == b.groups && a.slots == b.slots
 }
