@@ -258,6 +258,28 @@ module _ (c0 c1 : code.Configs) (key : ℕ × ℕ) (h : HasConfiguration c0 key)
       h.config.state.fits.frames ∙ sym h.stands.machine.config.state.fits.frames ∙ ap (λ (m : Memory). m.frames) (sym h.stands.machine.memory)
       ∙ ap (λ (c : code.Configs). c.mem.memory.frames) (sym core.others)
 
+  pub names_as_well : (w : Names) → c1.names.height ≡ w.height → c1.names.pages ≡ w.pages → AreMemoryNames c1.store h.at.machine.memory w
+  names_as_well w high same =
+      let before : AreMemoryNames c1.store h.at.machine.memory c1.names =
+      subst (λ (c : code.Configs). AreMemoryNames c.store h.at.machine.memory c.names) (sym core.others) h.stands.named.names.memory in
+      let high_too : AreMemoryNames c1.store h.at.machine.memory (record c1.names { height = w.height }) =
+      subst (λ n. AreMemoryNames c1.store h.at.machine.memory (record c1.names { height = n })) high before in
+      let both : AreMemoryNames c1.store h.at.machine.memory (record c1.names { height = w.height; pages = w.pages }) =
+      subst (λ n. AreMemoryNames c1.store h.at.machine.memory (record c1.names { height = w.height; pages = n })) same high_too in
+      record {
+        tree = record { inner = both.tree.inner; few = both.tree.few; low = both.tree.low; inside = both.tree.inside };
+        pages = both.pages;
+      }
+
+  -- the pages that are listed are those of a memory of the same name
+  pub listed_still : (w : Names) (now : Memory) → ((m : Memory) → IsPaged m → m.frames ≡ c1.mem.memory.frames → AreMemoryNames c1.store m w → now ≡ m)
+      → c1.names.height ≡ w.height → c1.names.pages ≡ w.pages → c1.mapped.items ≡ mapped_pages now
+  listed_still w now is high same =
+      let at = h.stands.machine.config.state in
+      let frames = ap (λ (m : Memory). m.frames) (sym h.stands.machine.memory) ∙ ap (λ (c : code.Configs). c.mem.memory.frames) (sym core.others) in
+      let memory = is h.at.machine.memory (record { pages = at.state.pages; fitting = at.fits.mapped }) frames (names_as_well w high same) in
+      ap (λ (c : code.Configs). c.mapped.items) core.others ∙ h.stands.machine.mapped ∙ ap mapped_pages (sym memory)
+
 -- 5. All.
 
 module _ (c0 c1 c4 : code.Configs) (key : ℕ × ℕ) (h : HasConfiguration c0 key) (core : HasPutCore h.state.core c0 c1) (more : HasMoreCells c1.store c4.store)

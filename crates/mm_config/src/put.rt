@@ -34,7 +34,7 @@ impl Configs {
             &mut self.changed,
             &mut self.changed_cells,
         )?;
-        self.list_mapped()?;
+        self.list_mapped_of(&wanted)?;
         self.names = wanted;
         self.rest = rest;
         Ok(())
@@ -117,6 +117,19 @@ impl Configs {
             &self.changed,
             &mut self.revision.outputs,
         )
+    }
+
+    /// Lists the mapped pages, if the pages that were put have another name.
+    fn list_mapped_of(&mut self, wanted: &Names) -> Result<(), AllocError>
+        requires { self.old.names.height ≡ wanted.now.height → self.old.names.pages ≡ wanted.now.pages
+            → self.old.mapped.items ≡ mapped_pages self.old.mem.memory }
+        ensures { OnOk result ((self.new.mapped.items ≡ mapped_pages self.old.mem.memory)
+            × (self.new ≡ record self.old { mapped = self.new.mapped })) }
+    {
+        if self.names.height == wanted.height && self.names.pages == wanted.pages {
+            return Ok(());
+        }
+        self.list_mapped()
     }
 
     /// Lists the mapped pages anew.
