@@ -11,9 +11,9 @@ use Rattle.mm_config.specs.declared.configs.Configs as code
 use Rattle.mm_config.specs.declared.{store.Store.Store, names.Names.Names}
 use Rattle.mm_config.specs.{Machines.Configs, Naming.{AreNamesOf, AreMemoryNames, IsRest, IsKeptOnce}, Noting.{IsKeptStill, HasMoreCells, mapped_pages}}
 use Rattle.mm_config.specs.Keeping.{IsConfigurationOf, IsKeyOf, IsMachineAt, HasNamesOf, Stands}
-use Rattle.mm_config.specs.Reaching.{HasConfiguration, Reaches, HasPutCore, KeepsAll, HasReadSlots, HasReadQueues, HasReadOutputs, IsListed, Extends}
+use Rattle.mm_config.specs.Reaching.{HasConfiguration, Reaches, HasPutCore, HasPutMemory, KeepsAll, HasReadSlots, HasReadQueues, HasReadOutputs, IsListed, Extends}
 pub use Rattle.mm_config.proofs.Reached.{config_core}
-use Rattle.mm_config.proofs.{Reached.{slots_rows, own, aim, base_rows, as_many, groups, few_base}, Keys.key_tells, Zips.{zip_long, zip_from, each_at}, Noted.still_more, Staying.{keys_stay, names_stay, rest_stays}, Revising.{LeadsTo, revised_is}}
+use Rattle.mm_config.proofs.{Reached.{slots_rows, own, aim, base_rows, as_many, groups, few_base}, Keys.key_tells, Zips.{zip_long, zip_from, each_at}, Noted.{still_more, memory_more}, SamePlaces.same_mapped, Staying.{keys_stay, names_stay, rest_stays}, Revising.{LeadsTo, revised_is}}
 
 -- 1. A machine stands if it is at a configuration, with its names, and if what was kept still is.
 
@@ -258,27 +258,24 @@ module _ (c0 c1 : code.Configs) (key : ℕ × ℕ) (h : HasConfiguration c0 key)
       h.config.state.fits.frames ∙ sym h.stands.machine.config.state.fits.frames ∙ ap (λ (m : Memory). m.frames) (sym h.stands.machine.memory)
       ∙ ap (λ (c : code.Configs). c.mem.memory.frames) (sym core.others)
 
-  pub names_as_well : (w : Names) → c1.names.height ≡ w.height → c1.names.pages ≡ w.pages → AreMemoryNames c1.store h.at.machine.memory w
-  names_as_well w high same =
+  -- the memory is put, and the pages that are listed are those of a memory with the same pages
+  pub put_memory_so : (w : Names) → w ≡ h.is.names → (c2 : code.Configs) → HasMoreCells c1.store c2.store → c2.mem.memory ≡ h.state.memory → c2.names ≡ c1.names → c2.mapped ≡ c1.mapped
+      → HasPutMemory w c2
+  put_memory_so w e c2 more is names mapped =
       let before : AreMemoryNames c1.store h.at.machine.memory c1.names =
-      subst (λ (c : code.Configs). AreMemoryNames c.store h.at.machine.memory c.names) (sym core.others) h.stands.named.names.memory in
-      let high_too : AreMemoryNames c1.store h.at.machine.memory (record c1.names { height = w.height }) =
-      subst (λ n. AreMemoryNames c1.store h.at.machine.memory (record c1.names { height = n })) high before in
-      let both : AreMemoryNames c1.store h.at.machine.memory (record c1.names { height = w.height; pages = w.pages }) =
-      subst (λ n. AreMemoryNames c1.store h.at.machine.memory (record c1.names { height = w.height; pages = n })) same high_too in
-      record {
-        tree = record { inner = both.tree.inner; few = both.tree.few; low = both.tree.low; inside = both.tree.inside };
-        pages = both.pages;
-      }
-
-  -- the pages that are listed are those of a memory of the same name
-  pub listed_still : (w : Names) (now : Memory) → ((m : Memory) → IsPaged m → m.frames ≡ c1.mem.memory.frames → AreMemoryNames c1.store m w → now ≡ m)
-      → c1.names.height ≡ w.height → c1.names.pages ≡ w.pages → c1.mapped.items ≡ mapped_pages now
-  listed_still w now is high same =
+          subst (λ (c : code.Configs). AreMemoryNames c.store h.at.machine.memory c.names) (sym core.others) h.stands.named.names.memory in
+      let was : AreMemoryNames c2.store h.at.machine.memory c2.names =
+          subst (AreMemoryNames c2.store h.at.machine.memory) (sym names) (memory_more c1.store c2.store more h.at.machine.memory c1.names before) in
+      let now = memory_more c1.store c2.store more h.state.memory w (memory_wanted w e) in
       let at = h.stands.machine.config.state in
-      let frames = ap (λ (m : Memory). m.frames) (sym h.stands.machine.memory) ∙ ap (λ (c : code.Configs). c.mem.memory.frames) (sym core.others) in
-      let memory = is h.at.machine.memory (record { pages = at.state.pages; fitting = at.fits.mapped }) frames (names_as_well w high same) in
-      ap (λ (c : code.Configs). c.mapped.items) core.others ∙ h.stands.machine.mapped ∙ ap mapped_pages (sym memory)
+      record {
+        was = was.tree.inner;
+        now = now.tree.inner;
+        listed = λ high same.
+            ap (λ v. v.items) mapped ∙ ap (λ (c : code.Configs). c.mapped.items) core.others ∙ h.stands.machine.mapped
+            ∙ same_mapped c2.store h.at.machine.memory h.state.memory c2.names w (record { pages = at.state.pages; fitting = at.fits.mapped }) is_paged was now high same
+            ∙ ap mapped_pages (sym is);
+      }
 
 -- 5. All.
 

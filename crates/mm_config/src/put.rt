@@ -3,12 +3,13 @@
 ghost use Rattle.std.specs.Prelude.{◌≡◌, IfOk, OnOk};
 ghost use Rattle.mm_config.specs.Noting.{mapped_pages};
 ghost use Rattle.mm_config.specs.Keeping.{Stands};
-ghost use Rattle.mm_config.specs.Reaching.{HasConfiguration, Reaches, HasPutCore, HasReadSlots, HasReadQueues, HasReadOutputs};
+ghost use Rattle.mm_config.specs.Reaching.{HasConfiguration, Reaches, HasPutCore, HasPutMemory, HasReadSlots, HasReadQueues, HasReadOutputs};
 
 use crate::changes::{mask_of, take_outputs, take_queues, take_slots};
 use crate::configs::Configs;
 use crate::names::Names;
 use crate::note::GROUPS;
+use crate::pages::has_same_places;
 use crate::put_memory::put_memory;
 use mm_mem::Inspect;
 use std::alloc::AllocError;
@@ -119,14 +120,15 @@ impl Configs {
         )
     }
 
-    /// Lists the mapped pages, if the pages that were put have another name.
+    /// Lists the mapped pages, if other pages were mapped before.
     fn list_mapped_of(&mut self, wanted: &Names) -> Result<(), AllocError>
-        requires { self.old.names.height ≡ wanted.now.height → self.old.names.pages ≡ wanted.now.pages
-            → self.old.mapped.items ≡ mapped_pages self.old.mem.memory }
+        requires { HasPutMemory wanted.now self.old }
         ensures { OnOk result ((self.new.mapped.items ≡ mapped_pages self.old.mem.memory)
             × (self.new ≡ record self.old { mapped = self.new.mapped })) }
     {
-        if self.names.height == wanted.height && self.names.pages == wanted.pages {
+        if self.names.height == wanted.height
+            && has_same_places(&self.store.pairs, self.names.pages, wanted.pages, wanted.height)
+        {
             return Ok(());
         }
         self.list_mapped()

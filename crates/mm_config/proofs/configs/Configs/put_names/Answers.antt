@@ -1,7 +1,7 @@
 use Rattle.std.proofs.Common.{ℕ, refl, sym, subst}
 use Rattle.mm_config.specs.declared.configs.Configs as code
 use Rattle.mm_config.specs.{Keeping.Stands}
-use Rattle.mm_config.proofs.Standing.{there_already, wanted_is, reaches_it, memory_before, memory_wanted, is_paged, same_frames, listed_still, put_stands}
+use Rattle.mm_config.proofs.Standing.{there_already, wanted_is, reaches_it, memory_before, memory_wanted, is_paged, same_frames, put_memory_so, put_stands}
 use Rattle.mm_config.proofs.configs.Configs.put_names.Goals as goal
 
 pub returns-then-rest-self : goal.returns-then-rest-self
@@ -36,9 +36,15 @@ list_mapped_of-requires c =
     let h = c.requires in
     let c0 = c.args.self.now in
     let key : ℕ × ℕ = (c.args.slots, c.args.rest) in
+    let c1 = c.put_core.new.self in
     let w = c.of-wanted.result in
-    let core = c.in_ok-put_core.ensures (reaches_it c0 key h w (wanted_is c0 key h w c.of-wanted.ensures)) in
-    listed_still c0 c.put_core.new.self key h core w c.put_memory.new.mem.memory c.in_ok-put_memory.ensures.memory
+    let is = wanted_is c0 key h w c.of-wanted.ensures in
+    let core = c.in_ok-put_core.ensures (reaches_it c0 key h w is) in
+    let put = c.in_ok-put_memory.ensures in
+    let new = c.put_memory.new in
+    let c2 : code.Configs = record c1 { store = new.store; mem = new.mem; changed = new.pages; changed_cells = new.cells } in
+    let memory = put.memory h.state.memory (is_paged c0 c1 key h core) (same_frames c0 c1 key h core) (memory_wanted c0 c1 key h core w is) in
+    put_memory_so c0 c1 key h core w is c2 put.more memory refl refl
 
 pub returns : goal.returns
 returns c = λ h.
