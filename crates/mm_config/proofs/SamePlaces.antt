@@ -29,33 +29,27 @@ Pages = List (ℕ × List Cell)
 abbrev bare : Pages → List (ℕ × Bool)
 bare pages = map (λ (e : ℕ × List Cell). (e.0, true)) pages
 
-found_bare : (q : ℕ) (es : Pages) → is_some (find nat_cmp q es) ≡ true → find nat_cmp q (bare es) ≡ Some true
-found_bare q [] some = cc
-found_bare q (e ∷ es) some = by (nat_eq q e.0) refl
-  where
-    first : find nat_cmp q (e ∷ es) ≡ cond (nat_eq q e.0) (Some e.1) (find nat_cmp q es)
-    first = ap (λ b. cond b (Some e.1) (find nat_cmp q es)) (unsigned_tied q e.0)
-    first_bare : find nat_cmp q (bare (e ∷ es)) ≡ cond (nat_eq q e.0) (Some true) (find nat_cmp q (bare es))
-    first_bare = ap (λ b. cond b (Some true) (find nat_cmp q (bare es))) (unsigned_tied q e.0)
-    by : (b : Bool) → nat_eq q e.0 ≡ b → find nat_cmp q (bare (e ∷ es)) ≡ Some true
-    by true same = first_bare ∙ ap (λ b. cond b (Some true) (find nat_cmp q (bare es))) same
-    by false other =
-        first_bare ∙ ap (λ b. cond b (Some true) (find nat_cmp q (bare es))) other
-        ∙ found_bare q es (ap is_some (sym (first ∙ ap (λ b. cond b (Some e.1) (find nat_cmp q es)) other)) ∙ some)
+abbrev told : Option (List Cell) → Option Bool
+told None = None
+told (Some cells) = Some true
 
-missed_bare : (q : ℕ) (es : Pages) → is_some (find nat_cmp q es) ≡ false → find nat_cmp q (bare es) ≡ None
-missed_bare q [] none = refl
-missed_bare q (e ∷ es) none = by (nat_eq q e.0) refl
-  where
-    first : find nat_cmp q (e ∷ es) ≡ cond (nat_eq q e.0) (Some e.1) (find nat_cmp q es)
-    first = ap (λ b. cond b (Some e.1) (find nat_cmp q es)) (unsigned_tied q e.0)
-    first_bare : find nat_cmp q (bare (e ∷ es)) ≡ cond (nat_eq q e.0) (Some true) (find nat_cmp q (bare es))
-    first_bare = ap (λ b. cond b (Some true) (find nat_cmp q (bare es))) (unsigned_tied q e.0)
-    by : (b : Bool) → nat_eq q e.0 ≡ b → find nat_cmp q (bare (e ∷ es)) ≡ None
-    by true same = let clash : true ≡ false = sym (ap is_some (first ∙ ap (λ b. cond b (Some e.1) (find nat_cmp q es)) same)) ∙ none in cc
-    by false other =
-        first_bare ∙ ap (λ b. cond b (Some true) (find nat_cmp q (bare es))) other
-        ∙ missed_bare q es (ap is_some (sym (first ∙ ap (λ b. cond b (Some e.1) (find nat_cmp q es)) other)) ∙ none)
+told_first : (b : Bool) (cells : List Cell) (o : Option (List Cell)) → cond b (Some true) (told o) ≡ told (cond b (Some cells) o)
+told_first true cells o = refl
+told_first false cells o = refl
+
+told_same : (o p : Option (List Cell)) → is_some o ≡ is_some p → told o ≡ told p
+told_same None None e = refl
+told_same None (Some cells) e = cc
+told_same (Some cells) None e = cc
+told_same (Some cells) (Some others) e = refl
+
+find_bare : (q : ℕ) (es : Pages) → find nat_cmp q (bare es) ≡ told (find nat_cmp q es)
+find_bare q [] = refl
+find_bare q (e ∷ es) =
+    ap (λ b. cond b (Some true) (find nat_cmp q (bare es))) (unsigned_tied q e.0)
+    ∙ ap (cond (nat_eq q e.0) (Some true)) (find_bare q es)
+    ∙ told_first (nat_eq q e.0) e.1 (find nat_cmp q es)
+    ∙ ap (λ b. told (cond b (Some e.1) (find nat_cmp q es))) (sym (unsigned_tied q e.0))
 
 below_bare : (k : ℕ) (es : Pages) → below_all nat_cmp k (bare es) ≡ below_all nat_cmp k es
 below_bare k [] = refl
@@ -69,18 +63,11 @@ numbers_bare : (es : Pages) → map (λ (e : ℕ × Bool). e.0) (bare es) ≡ ma
 numbers_bare [] = refl
 numbers_bare (e ∷ es) = ap (λ l. e.0 ∷ l) (numbers_bare es)
 
-same_bare : (q : ℕ) (es fs : Pages) → is_some (find nat_cmp q es) ≡ is_some (find nat_cmp q fs) → find nat_cmp q (bare es) ≡ find nat_cmp q (bare fs)
-same_bare q es fs same = by (is_some (find nat_cmp q es)) refl
-  where
-    by : (b : Bool) → is_some (find nat_cmp q es) ≡ b → find nat_cmp q (bare es) ≡ find nat_cmp q (bare fs)
-    by true e = found_bare q es e ∙ sym (found_bare q fs (sym same ∙ e))
-    by false e = missed_bare q es e ∙ sym (missed_bare q fs (sym same ∙ e))
-
 same_numbers : (es fs : Pages) → T (is_sorted nat_cmp es) → T (is_sorted nat_cmp fs) → ((q : ℕ) → is_some (find nat_cmp q es) ≡ is_some (find nat_cmp q fs))
     → map (λ (e : ℕ × List Cell). e.0) es ≡ map (λ (e : ℕ × List Cell). e.0) fs
 same_numbers es fs up also same =
     let alike = same_entries nat_cmp nat_cmp_total nat_cmp-IsAntisymmetric (bare es) (bare fs) (subst T (sym (sorted_bare es)) up) (subst T (sym (sorted_bare fs)) also)
-        (λ q. same_bare q es fs (same q)) in
+        (λ q. find_bare q es ∙ told_same (find nat_cmp q es) (find nat_cmp q fs) (same q) ∙ sym (find_bare q fs)) in
     sym (numbers_bare es) ∙ ap (map (λ (e : ℕ × Bool). e.0)) alike ∙ numbers_bare fs
 
 -- 3. Memories.
