@@ -1,6 +1,6 @@
 -- Memories in which the same pages are mapped.
-use Rattle.std.proofs.Common.{◌≡◌, ◌≢◌, inl, inr, ℕ, zero, suc, ◌-◌, ◌<◌, ◌≤◌, ◌^◌, Bool, true, false, not, cond, nat_eq, List, [], ◌∷◌, map, Option, Some, None, is_some}
-use Rattle.std.proofs.Common.{refl, sym, ap, ◌∙◌, subst, arith, T, ◌&&◌}
+use Rattle.std.proofs.Common.{◌≡◌, inl, inr, ℕ, suc, ◌-◌, ◌^◌, Bool, true, false, not, cond, nat_eq, List, [], ◌∷◌, map, Option, Some, None, is_some}
+use Rattle.std.proofs.Common.{refl, sym, ap, ◌∙◌, subst, T, ◌&&◌}
 use Rattle.std.proofs.lemmas.{Bool.{cases_lt, ne_eqb}, Cmp.nat_cmp_total}
 use Rattle.std.specs.{Cmp.unsigned_tied, Ordering.{nat_cmp, is_lt}, FinMap.{find, is_sorted, nat_cmp-IsAntisymmetric}, FinMap.Entries.{below_all, same_entries}}
 use Rattle.mm_word.specs.declared.word.Cell.{Cell}
@@ -67,7 +67,7 @@ same_numbers : (es fs : Pages) → T (is_sorted nat_cmp es) → T (is_sorted nat
     → map (λ (e : ℕ × List Cell). e.0) es ≡ map (λ (e : ℕ × List Cell). e.0) fs
 same_numbers es fs up also same =
     let alike = same_entries nat_cmp nat_cmp_total nat_cmp-IsAntisymmetric (bare es) (bare fs) (subst T (sym (sorted_bare es)) up) (subst T (sym (sorted_bare fs)) also)
-        (λ q. find_bare q es ∙ told_same (find nat_cmp q es) (find nat_cmp q fs) (same q) ∙ sym (find_bare q fs)) in
+    (λ q. find_bare q es ∙ told_same (find nat_cmp q es) (find nat_cmp q fs) (same q) ∙ sym (find_bare q fs)) in
     sym (numbers_bare es) ∙ ap (map (λ (e : ℕ × Bool). e.0)) alike ∙ numbers_bare fs
 
 -- 3. Memories.
@@ -80,7 +80,7 @@ pub same_mapped : (k : Store) (m now : Memory) (was wanted : Names) → IsPaged 
     → was.height ≡ wanted.height → HaveSamePlaces k.pairs wanted.height was.pages wanted.pages → mapped_pages m ≡ mapped_pages now
 same_mapped k m now was wanted whole also named named_now high same =
     same_numbers m.pages now.pages (subst T (sym whole.pages.rising) tt) (subst T (sym also.pages.rising) tt) (λ q.
-        named_mapped k (page_at m q) (page_name k was q) (named.pages q)
-        ∙ ap (λ h. not (nat_eq (leaf_at k.pairs h was.pages (page_place k.pages q)) 0)) high
-        ∙ ap not (same (page_place k.pages q))
-        ∙ sym (named_mapped k (page_at now q) (page_name k wanted q) (named_now.pages q)))
+    named_mapped k (page_at m q) (page_name k was q) (named.pages q)
+    ∙ ap (λ h. not (nat_eq (leaf_at k.pairs h was.pages (page_place k.pages q)) 0)) high
+    ∙ ap not (same (page_place k.pages q))
+    ∙ sym (named_mapped k (page_at now q) (page_name k wanted q) (named_now.pages q)))

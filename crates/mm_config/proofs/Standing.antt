@@ -263,9 +263,9 @@ module _ (c0 c1 : code.Configs) (key : ℕ × ℕ) (h : HasConfiguration c0 key)
       → HasPutMemory w c2
   put_memory_so w e c2 more is names mapped =
       let before : AreMemoryNames c1.store h.at.machine.memory c1.names =
-          subst (λ (c : code.Configs). AreMemoryNames c.store h.at.machine.memory c.names) (sym core.others) h.stands.named.names.memory in
+      subst (λ (c : code.Configs). AreMemoryNames c.store h.at.machine.memory c.names) (sym core.others) h.stands.named.names.memory in
       let was : AreMemoryNames c2.store h.at.machine.memory c2.names =
-          subst (AreMemoryNames c2.store h.at.machine.memory) (sym names) (memory_more c1.store c2.store more h.at.machine.memory c1.names before) in
+      subst (AreMemoryNames c2.store h.at.machine.memory) (sym names) (memory_more c1.store c2.store more h.at.machine.memory c1.names before) in
       let now = memory_more c1.store c2.store more h.state.memory w (memory_wanted w e) in
       let at = h.stands.machine.config.state in
       record {

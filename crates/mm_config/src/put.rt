@@ -127,7 +127,12 @@ impl Configs {
             × (self.new ≡ record self.old { mapped = self.new.mapped })) }
     {
         if self.names.height == wanted.height
-            && has_same_places(&self.store.pairs, self.names.pages, wanted.pages, wanted.height)
+            && has_same_places(
+                &self.store.pairs,
+                self.names.pages,
+                wanted.pages,
+                wanted.height,
+            )
         {
             return Ok(());
         }
