@@ -44,4 +44,5 @@ pub mod Noted
 pub mod PageLists
 pub mod Walks
 pub mod PutPages
+pub mod SamePlaces
 pub mod PutCells

@@ -11,9 +11,9 @@ use Rattle.mm_config.specs.declared.configs.Configs as code
 use Rattle.mm_config.specs.declared.{store.Store.Store, names.Names.Names}
 use Rattle.mm_config.specs.{Machines.Configs, Naming.{AreNamesOf, AreMemoryNames, IsRest, IsKeptOnce}, Noting.{IsKeptStill, HasMoreCells, mapped_pages}}
 use Rattle.mm_config.specs.Keeping.{IsConfigurationOf, IsKeyOf, IsMachineAt, HasNamesOf, Stands}
-use Rattle.mm_config.specs.Reaching.{HasConfiguration, Reaches, HasPutCore, KeepsAll, HasReadSlots, HasReadQueues, HasReadOutputs, IsListed, Extends}
+use Rattle.mm_config.specs.Reaching.{HasConfiguration, Reaches, HasPutCore, HasPutMemory, KeepsAll, HasReadSlots, HasReadQueues, HasReadOutputs, IsListed, Extends}
 pub use Rattle.mm_config.proofs.Reached.{config_core}
-use Rattle.mm_config.proofs.{Reached.{slots_rows, own, aim, base_rows, as_many, groups, few_base}, Keys.key_tells, Zips.{zip_long, zip_from, each_at}, Noted.still_more, Staying.{keys_stay, names_stay, rest_stays}, Revising.{LeadsTo, revised_is}}
+use Rattle.mm_config.proofs.{Reached.{slots_rows, own, aim, base_rows, as_many, groups, few_base}, Keys.key_tells, Zips.{zip_long, zip_from, each_at}, Noted.{still_more, memory_more}, SamePlaces.same_mapped, Staying.{keys_stay, names_stay, rest_stays}, Revising.{LeadsTo, revised_is}}
 
 -- 1. A machine stands if it is at a configuration, with its names, and if what was kept still is.
 
@@ -257,6 +257,25 @@ module _ (c0 c1 : code.Configs) (key : ℕ × ℕ) (h : HasConfiguration c0 key)
   same_frames =
       h.config.state.fits.frames ∙ sym h.stands.machine.config.state.fits.frames ∙ ap (λ (m : Memory). m.frames) (sym h.stands.machine.memory)
       ∙ ap (λ (c : code.Configs). c.mem.memory.frames) (sym core.others)
+
+  -- the memory is put, and the pages that are listed are those of a memory with the same pages
+  pub put_memory_so : (w : Names) → w ≡ h.is.names → (c2 : code.Configs) → HasMoreCells c1.store c2.store → c2.mem.memory ≡ h.state.memory → c2.names ≡ c1.names → c2.mapped ≡ c1.mapped
+      → HasPutMemory w c2
+  put_memory_so w e c2 more is names mapped =
+      let before : AreMemoryNames c1.store h.at.machine.memory c1.names =
+      subst (λ (c : code.Configs). AreMemoryNames c.store h.at.machine.memory c.names) (sym core.others) h.stands.named.names.memory in
+      let was : AreMemoryNames c2.store h.at.machine.memory c2.names =
+      subst (AreMemoryNames c2.store h.at.machine.memory) (sym names) (memory_more c1.store c2.store more h.at.machine.memory c1.names before) in
+      let now = memory_more c1.store c2.store more h.state.memory w (memory_wanted w e) in
+      let at = h.stands.machine.config.state in
+      record {
+        was = was.tree.inner;
+        now = now.tree.inner;
+        listed = λ high same.
+            ap (λ v. v.items) mapped ∙ ap (λ (c : code.Configs). c.mapped.items) core.others ∙ h.stands.machine.mapped
+            ∙ same_mapped c2.store h.at.machine.memory h.state.memory c2.names w (record { pages = at.state.pages; fitting = at.fits.mapped }) is_paged was now high same
+            ∙ ap mapped_pages (sym is);
+      }
 
 -- 5. All.
 

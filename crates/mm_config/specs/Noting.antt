@@ -31,6 +31,10 @@ pub record IsSameTree (old : List (ℕ × ℕ)) (was : Names) (new : List (ℕ �
   pub inner : IsTree new now.height now.pages
   pub leaves : (at : ℕ) → leaf_at new now.height now.pages at ≡ leaf_at old was.height was.pages at
 
+-- trees of one depth have names at the same places
+abbrev pub HaveSamePlaces : List (ℕ × ℕ) → (depth was tree : ℕ) → Type 0
+HaveSamePlaces pairs depth was tree = (at : ℕ) → nat_eq (leaf_at pairs depth was at) 0 ≡ nat_eq (leaf_at pairs depth tree at) 0
+
 -- the page of a number has this name, and each other the one that it had
 pub record PutsPage (old : Store) (was : Names) (number name : ℕ) (new : Store) (now : Names) : Type 0 where
   pub still : IsKeptStill old new

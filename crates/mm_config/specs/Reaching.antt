@@ -6,7 +6,8 @@ use Rattle.mm_model.specs.declared.event.Event.{Event}
 use Rattle.mm_thread.specs.{SlotIndices.{no_slot, slot_in, queue_in}, Revisions.{Extension, queues_in, outputs_in}}
 use Rattle.mm_config.specs.declared.configs.Configs as code
 use Rattle.mm_config.specs.declared.names.Names.{Names}
-use Rattle.mm_config.specs.{Machines.Configs, Naming.AreNamesOf, Keeping.{Stands, IsConfigurationOf, IsKeyOf}}
+use Rattle.mm_pairs.specs.Trees.{IsTree}
+use Rattle.mm_config.specs.{Noting.{HaveSamePlaces, mapped_pages}, Machines.Configs, Naming.AreNamesOf, Keeping.{Stands, IsConfigurationOf, IsKeyOf}}
 
 -- a machine with its configurations, and another configuration of a key
 pub record HasConfiguration (c : code.Configs) (key : ℕ × ℕ) : Type 0 where
@@ -31,6 +32,13 @@ pub record HasPutCore (core : Core) (old new : code.Configs) : Type 0 where
   pub is : new.core ≡ core
   pub room : map identity_of new.slots.items ≡ map identity_of old.slots.items
   pub others : new ≡ record old { core = new.core; slots = new.slots; revision = new.revision; changed = new.changed }
+
+-- the memory of these names is put: the pages that are listed are its pages, if the same pages were mapped before
+pub record HasPutMemory (wanted : Names) (c : code.Configs) : Type 0 where
+  pub was : IsTree c.store.pairs c.names.height c.names.pages
+  pub now : IsTree c.store.pairs wanted.height wanted.pages
+  pub listed : c.names.height ≡ wanted.height → HaveSamePlaces c.store.pairs wanted.height c.names.pages wanted.pages
+      → c.mapped.items ≡ mapped_pages c.mem.memory
 
 -- what is not room for reading is as it was
 abbrev pub KeepsAll : (old new : code.Configs) → Type 0

@@ -5,7 +5,7 @@ ghost use Rattle.std.specs.FinMap.{is_sorted};
 ghost use Rattle.std.specs.Ordering.{nat_cmp};
 ghost use Rattle.mm_pairs.specs.Trees.{IsTree};
 ghost use Rattle.mm_config.specs.Naming.{AreCells, AreMemoryNames, IsTreeOfPages, page_name, IsLow};
-ghost use Rattle.mm_config.specs.Noting.{HasMoreCells, HasOtherPages, IsKeptStill, IsSameTree, PutsPage};
+ghost use Rattle.mm_config.specs.Noting.{HasMoreCells, HasOtherPages, HaveSamePlaces, IsKeptStill, IsSameTree, PutsPage};
 
 use crate::names::Names;
 use crate::store::Store;
@@ -96,6 +96,26 @@ pub(crate) fn page_of(store: &Store, names: &Names, number: u64) -> u32
         return 0;
     }
     store.pairs.leaf(names.pages, names.height, place)
+}
+
+/// Whether trees of one depth have names at the same places: whether the same pages are mapped.
+pub(crate) fn has_same_places(pairs: &Pairs, was: u32, tree: u32, depth: u32) -> bool
+    requires was { IsTree pairs.now depth was }
+    requires tree { IsTree pairs.now depth tree }
+    ensures { IsTrue result → HaveSamePlaces pairs.now depth was tree }
+{
+    if was == tree {
+        return true;
+    }
+    if depth == 0 {
+        return was != 0 && tree != 0;
+    }
+    let (was_left, was_right) = pairs.parts(was);
+    let (left, right) = pairs.parts(tree);
+    if !has_same_places(pairs, was_left, left, depth - 1) {
+        return false;
+    }
+    has_same_places(pairs, was_right, right, depth - 1)
 }
 
 /// Notes the pages of an image.

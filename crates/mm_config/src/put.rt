@@ -3,12 +3,13 @@
 ghost use Rattle.std.specs.Prelude.{◌≡◌, IfOk, OnOk};
 ghost use Rattle.mm_config.specs.Noting.{mapped_pages};
 ghost use Rattle.mm_config.specs.Keeping.{Stands};
-ghost use Rattle.mm_config.specs.Reaching.{HasConfiguration, Reaches, HasPutCore, HasReadSlots, HasReadQueues, HasReadOutputs};
+ghost use Rattle.mm_config.specs.Reaching.{HasConfiguration, Reaches, HasPutCore, HasPutMemory, HasReadSlots, HasReadQueues, HasReadOutputs};
 
 use crate::changes::{mask_of, take_outputs, take_queues, take_slots};
 use crate::configs::Configs;
 use crate::names::Names;
 use crate::note::GROUPS;
+use crate::pages::has_same_places;
 use crate::put_memory::put_memory;
 use mm_mem::Inspect;
 use std::alloc::AllocError;
@@ -34,7 +35,7 @@ impl Configs {
             &mut self.changed,
             &mut self.changed_cells,
         )?;
-        self.list_mapped()?;
+        self.list_mapped_of(&wanted)?;
         self.names = wanted;
         self.rest = rest;
         Ok(())
@@ -117,6 +118,25 @@ impl Configs {
             &self.changed,
             &mut self.revision.outputs,
         )
+    }
+
+    /// Lists the mapped pages, if other pages were mapped before.
+    fn list_mapped_of(&mut self, wanted: &Names) -> Result<(), AllocError>
+        requires { HasPutMemory wanted.now self.old }
+        ensures { OnOk result ((self.new.mapped.items ≡ mapped_pages self.old.mem.memory)
+            × (self.new ≡ record self.old { mapped = self.new.mapped })) }
+    {
+        if self.names.height == wanted.height
+            && has_same_places(
+                &self.store.pairs,
+                self.names.pages,
+                wanted.pages,
+                wanted.height,
+            )
+        {
+            return Ok(());
+        }
+        self.list_mapped()
     }
 
     /// Lists the mapped pages anew.

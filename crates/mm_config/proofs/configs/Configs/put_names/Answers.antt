@@ -1,7 +1,7 @@
 use Rattle.std.proofs.Common.{ℕ, refl, sym, subst}
 use Rattle.mm_config.specs.declared.configs.Configs as code
 use Rattle.mm_config.specs.{Keeping.Stands}
-use Rattle.mm_config.proofs.Standing.{there_already, wanted_is, reaches_it, memory_before, memory_wanted, is_paged, same_frames, put_stands}
+use Rattle.mm_config.proofs.Standing.{there_already, wanted_is, reaches_it, memory_before, memory_wanted, is_paged, same_frames, put_memory_so, put_stands}
 use Rattle.mm_config.proofs.configs.Configs.put_names.Goals as goal
 
 pub returns-then-rest-self : goal.returns-then-rest-self
@@ -31,6 +31,21 @@ put_memory-requires c =
       wanted = (h.state.memory, is_paged c0 c1 key h core, same_frames c0 c1 key h core, memory_wanted c0 c1 key h core c.of-wanted.result is);
     }
 
+pub list_mapped_of-requires : goal.list_mapped_of-requires
+list_mapped_of-requires c =
+    let h = c.requires in
+    let c0 = c.args.self.now in
+    let key : ℕ × ℕ = (c.args.slots, c.args.rest) in
+    let c1 = c.put_core.new.self in
+    let w = c.of-wanted.result in
+    let is = wanted_is c0 key h w c.of-wanted.ensures in
+    let core = c.in_ok-put_core.ensures (reaches_it c0 key h w is) in
+    let put = c.in_ok-put_memory.ensures in
+    let new = c.put_memory.new in
+    let c2 : code.Configs = record c1 { store = new.store; mem = new.mem; changed = new.pages; changed_cells = new.cells } in
+    let memory = put.memory h.state.memory (is_paged c0 c1 key h core) (same_frames c0 c1 key h core) (memory_wanted c0 c1 key h core w is) in
+    put_memory_so c0 c1 key h core w is c2 put.more memory refl refl
+
 pub returns : goal.returns
 returns c = λ h.
     let c0 = c.args.self.now in
@@ -41,8 +56,8 @@ returns c = λ h.
     let core = c.in_ok-put_core.ensures (reaches_it c0 key h w is) in
     let put = c.in_ok-put_memory.ensures in
     let new = c.put_memory.new in
-    let listed = c.in_ok-list_mapped.ensures in
-    let mapped = c.list_mapped.new.self.mapped in
+    let listed = c.in_ok-list_mapped_of.ensures in
+    let mapped = c.list_mapped_of.new.self.mapped in
     let c4 : code.Configs = record c1 { store = new.store; mem = new.mem; changed = new.pages; changed_cells = new.cells; mapped = mapped; names = w; rest = c.args.rest } in
     let memory = put.memory h.state.memory (is_paged c0 c1 key h core) (same_frames c0 c1 key h core) (memory_wanted c0 c1 key h core w is) in
     subst (λ (d : code.Configs). Stands h.image (record h.at { machine = h.state }) (record d { names = w; rest = c.args.rest })) (sym listed.1)

@@ -1,0 +1,11 @@
+use Rattle.std.proofs.Common.{◌≡◌, suc, ◌-◌, arith}
+use Rattle.mm_config.proofs.SamePlaces.{same_halves}
+use Rattle.mm_config.proofs.pages.+has_same_places.Goals as goal
+
+pub returns : goal.returns
+returns t c = λ yes.
+    let d = c.args.depth - 1 in
+    let some = c.if-depth-eq0.false in
+    let is : c.args.depth ≡ suc d = omega (arith, some) in
+    same_halves c.args.pairs.now c.args.depth d c.args.was c.args.tree c.parts-was_left.result c.parts-left.result is c.parts-was_left.ensures c.parts-left.ensures
+    (c.has_same_places.ensures c.if-not-has_same_places.false) (c.has_same_places-2.ensures yes)
