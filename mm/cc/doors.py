@@ -6,8 +6,9 @@ from typing import Optional
 
 from mm.cc.code import ARGUMENTS
 from mm.cc.ir import Function, IntType, Module, Number, Parts, PointerType, VoidType, Zero
+from mm.cc.modulenames import public_name
 from mm.cc.options import Options
-from mm.cc.program import DOOR, DOOR_LOG, Failure, Program, public_name
+from mm.cc.program import DOOR, DOOR_LOG, Failure, Program
 
 THREAD = "__mm_thread"
 NO_HANDLER = -1

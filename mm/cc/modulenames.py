@@ -18,6 +18,8 @@ if TYPE_CHECKING:
 
 # What the header mm.h makes of the names of doors, and of words that several programs share.
 DOOR, SHARED, EMPTY = "mm_door_", "mm_shared_", "mm_empty_"
+# The names that Clang gives the function `main`.
+MAINS = ("main", "__main_argc_argv", "__main_void", "__original_main")
 # Functions that are written in the machine's own operations.
 ASSEMBLER = {
     "setjmp": ["st r0, r7, 0, any, keep", "st r0, r8, 8, any, keep", "st r0, r9, 16, any, keep",
@@ -123,3 +125,17 @@ class ModuleNames(Names):
             return self.lines.name_of(node), types.of_variable(node, debug)
         name, type_ = types.of_global(made.debug, debug)
         return name or made.name.rpartition(".")[2], type_
+
+    def where(self, function: Function, location: Optional[str]) -> tuple[str, Optional[str]]:
+        """The file and the function of a place in C, and the place; without a location, where the function begins."""
+        inner = self.lines.function_at(location) or self.lines.name_of(function.debug or "")
+        place = self.lines.position(location) or self.lines.of_function(function.debug)
+        name = inner if inner != "?" else "main" if function.name in MAINS else function.name
+        return f"{self.module.name}: {name}", place
+
+
+def public_name(name: str) -> str:
+    """The segment of a door, or of words that are shared: other programs know it by this name."""
+    if name.startswith(DOOR):
+        return "door_" + name[len(DOOR):]
+    return name[len(SHARED if name.startswith(SHARED) else EMPTY):]

@@ -15,11 +15,11 @@ from mm.cc.declared import Declared, contradiction, elsewhere, warning
 from mm.cc.failures import INSTEAD, INSTEAD_OF, ONCE, ONE_MAIN, Failure, Failures, Missing, Repeated, instead_of
 from mm.cc.ir import POINTER, WORD, ArrayType, BlockAddress, Function, Global, GlobalObject, IntType, Module, Number, Parts
 from mm.cc.lines import FunctionNotes
-from mm.cc.modulenames import ASSEMBLER, DOOR, EMPTY, SHARED, WIPING, ModuleNames, Segment
+from mm.cc.modulenames import ASSEMBLER, DOOR, EMPTY, MAINS, SHARED, WIPING, ModuleNames, Segment, public_name
 from mm.cc.options import Options
 from mm.cc.pointers import Known
 from mm.cc.sequences import emit
-from mm.cc.text import Line, TextBlock
+from mm.cc.text import TextBlock, plain_line
 from mm.cc.untranslated import Untranslated
 
 MOST_NAME = 31
@@ -30,7 +30,6 @@ MOST_LOG = 20
 RESERVED = re.compile(r"r\d+|L\d+|P_.*|none|int|ptr|start|stack|text|heap")
 # A door's segment: where it is entered, and its length.
 DOOR_ENTRY, DOOR_LOG = 16, 9
-MAINS = ("main", "__main_argc_argv", "__main_void", "__original_main")
 
 
 class Program:
@@ -149,7 +148,7 @@ class Program:
             elif name in ASSEMBLER:
                 block = TextBlock(found)
                 lines = WIPING.get(name, ASSEMBLER[name]) if self.wipes else ASSEMBLER[name]
-                block.lines = [Line(*_split(line), None, None) for line in lines]
+                block.lines = [plain_line(line) for line in lines]
                 self.texts.append([block])
         return found
 
@@ -161,7 +160,7 @@ class Program:
         said = contradiction(name, (here, self.names[id(module)].layouts), (there, self.names[id(home)].layouts))
         if said:
             names, translator = self.current
-            _, place = self._where(names, translator.function, translator.line)
+            _, place = names.where(translator.function, translator.line)
             self.contradicted[id(module), name] = warning(place or module.name, begins, said)
 
     def want_global(self, module: Module, called: str) -> Segment:
@@ -260,19 +259,11 @@ class Program:
         where, place = "the program", None
         if self.current is not None:
             names, translator = self.current
-            where, place = self._where(names, translator.function, translator.line)
+            where, place = names.where(translator.function, translator.line)
         elif self.filled is not None:
             where, place = self._where_of(self.filled)
         said = INSTEAD.get(name) or elsewhere(name, self.public, [module.name for module in self.modules[:-1]])
         self.undefined[name] = Missing(where, f"`{name}`", place, said)
-
-    def _where(self, names: ModuleNames, function: Function, location: Optional[str]) -> tuple[str, Optional[str]]:
-        """The file and the function of a place in C, and the place; without a location, where the function begins."""
-        lines = names.lines
-        inner = lines.function_at(location) or lines.name_of(function.debug or "")
-        place = lines.position(location) or lines.of_function(function.debug)
-        name = inner if inner != "?" else "main" if function.name in MAINS else function.name
-        return f"{names.module.name}: {name}", place
 
     def _where_of(self, segment: Segment) -> tuple[str, Optional[str]]:
         """The file and the name in C of a global, and the line where it is declared."""
@@ -297,7 +288,7 @@ class Program:
 
     def _failed(self, names: ModuleNames, function: Function, location: Optional[str],
                 why: str) -> tuple[str, str, Optional[str], str]:
-        where, place = self._where(names, function, location)
+        where, place = names.where(function, location)
         return where, why, place, instead_of(why)
 
     def notes(self) -> Iterator[str]:
@@ -400,15 +391,3 @@ class Program:
         if 0 <= at < 1 << found.known.log:
             return f"{permission} {found.name}+{at}", None
         return f"{permission} {found.name}+{found.known.place}", place.by
-
-
-def public_name(name: str) -> str:
-    """The segment of a door, or of words that are shared: other programs know it by this name."""
-    if name.startswith(DOOR):
-        return "door_" + name[len(DOOR):]
-    return name[len(SHARED if name.startswith(SHARED) else EMPTY):]
-
-
-def _split(line: str) -> tuple[str, str]:
-    op, _, operands = line.partition(" ")
-    return op, operands

@@ -22,6 +22,12 @@ class Line:
         return f"  {self.op} {self.operands}, {self.target}" if self.operands else f"  {self.op} {self.target}"
 
 
+def plain_line(line: str) -> Line:
+    """A line that goes to no label, of its text."""
+    op, _, operands = line.partition(" ")
+    return Line(op, operands, None, None)
+
+
 class TextBlock:
     """A block of text: a label and lines."""
 

@@ -11,7 +11,8 @@ from unittest import mock
 
 from mm.cc import cache, clang
 from mm.machine.program import CHECKOUT
-from mm.tests.cc_sources import GONE, HELD, IN_LIBRARY, OUTPUTS, OVER, REFUSED, REVERSED, SAME_NAME, STOPPED, USED
+from mm.tests.cc_sources import GONE, HELD, OUTPUTS, OVER, REFUSED, REVERSED, SAME_NAME, USED
+from mm.tests.cc_stopped_sources import IN_LIBRARY, STOPPED
 from mm.tests.cprograms import Generator
 from mm.tests.cruns import Machine, on_host
 from mm.cc.driver import source_of
