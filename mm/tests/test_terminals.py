@@ -220,7 +220,8 @@ class Typing(unittest.TestCase):
 
     def test_control_c_stops_where_the_run_is(self):
         with self.debugging(ENDLESS) as terminal:
-            for seconds in (1, 10, 60):  # A busy computer may not have begun after one.
+            # The run takes a second of a quick computer; a busy one may not have begun after ten.
+            for seconds in (0.1, 0.2, 0.4, 1, 10, 60):
                 terminal.type(b"continue\n")
                 time.sleep(seconds)
                 terminal.type(CONTROL_C)
