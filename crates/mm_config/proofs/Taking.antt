@@ -1,5 +1,5 @@
 -- Lists that are read one element after the other.
-use Rattle.std.proofs.Common.{◌≡◌, ℕ, suc, take, set, length, ◌+◌, ◌-◌, ◌/◌, ◌%◌, ◌<◌, List, [], ◌∷◌, ◌++◌, refl, sym}
+use Rattle.std.proofs.Common.{◌≡◌, ℕ, suc, take, set, length, ◌+◌, ◌-◌, ◌/◌, ◌%◌, ◌<◌, Bool, List, [], ◌∷◌, ◌++◌, refl, sym}
 use Rattle.std.proofs.{Common.{ap, ◌∙◌, arith, append_assoc}, lemmas.List.take_more_set}
 use Rattle.std.specs.Prelude.{◌==◌}
 use Rattle.mm_word.specs.{declared.word.{Word.Word}, Pointer.Pointer}
@@ -34,6 +34,12 @@ module _ (count k : ℕ) (lt : k < count) (ns later : List ℕ) (rest : later �
 -- a list with another element at an index, up to that element
 pub words_more : (xs : List Word) (at : ℕ) (w : Word) (rest : List Word) → at < length xs → take (at + 1) (set xs at w) ++ rest ≡ take at xs ++ w ∷ rest
 words_more xs at w rest lt = ap (λ l. l ++ rest) (take_more_set xs at w lt) ∙ append_assoc (take at xs) (w ∷ []) rest
+
+-- no word is read where none has changed
+pub words_none : (base : List Word) (tagged : List Bool) (ns : List ℕ) → words_from (flags (length base) 0) tagged base ns ≡ (base, ns)
+words_none [] tagged ns = refl
+words_none (b ∷ base) [] ns = refl
+words_none (b ∷ base) (t ∷ tagged) ns = ap (λ (r : List Word × List ℕ). (b ∷ r.0, r.1)) (words_none base tagged ns)
 
 -- registers that are read from the first on
 module _ (base old regs : List Word) (changed tagged : ℕ) (ns left : List ℕ) (long : length base ≡ 16) where
@@ -85,3 +91,13 @@ module _ (base : Slot) where
       (λ j. slot_of_parts head (words j) (is_ip j) (is_state j) (same_loads j))
       ∙ (λ j. slot_of_numbers (h j) (same_masks j) (same_bits j) (three j))
       ∙ slot_opened ns
+
+-- a slot's numbers, appended part by part
+pub slot_put : (out bits loads o1 o2 o3 o4 o5 : List ℕ) (head masks ip : ℕ) → o1 ≡ out ++ (head ∷ []) → o2 ≡ o1 ++ (masks ∷ []) → o3 ≡ o2 ++ (ip ∷ []) → o4 ≡ o3 ++ bits
+    → o5 ≡ o4 ++ loads → o5 ≡ out ++ (head ∷ masks ∷ ip ∷ (bits ++ loads))
+slot_put out bits loads o1 o2 o3 o4 o5 head masks ip e1 e2 e3 e4 e5 =
+    let l1 : List ℕ = bits ++ loads in
+    let l2 : List ℕ = ip ∷ l1 in
+    let l3 : List ℕ = masks ∷ l2 in
+    e5 ∙ ap (λ l. l ++ loads) e4 ∙ append_assoc o3 bits loads ∙ ap (λ l. l ++ l1) e3 ∙ append_assoc o2 (ip ∷ []) l1
+    ∙ ap (λ l. l ++ l2) e2 ∙ append_assoc o1 (masks ∷ []) l2 ∙ ap (λ l. l ++ l3) e1 ∙ append_assoc out (head ∷ []) l3

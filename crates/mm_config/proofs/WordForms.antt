@@ -7,7 +7,7 @@ use Rattle.mm_model.specs.{declared.slot.Pending.Pending, Effect.same_word, Flag
 use Rattle.mm_word.specs.{declared.word.Word.{Word, TheVariants.{Int, Ptr}}, Perm.can_fetch}
 use Rattle.mm_word.specs.{Pointer.{Pointer, IsWellFormed, pointer_of, bits_of}, Word.{IsWord, word_bits, is_pointer}}
 use Rattle.mm_word.proofs.Packing.{pointer_of-bits_of}
-use Rattle.mm_config.specs.Forms.{word_of, word_form, word_from, changed_flags, changed_bits, words_from, load_form}
+use Rattle.mm_config.specs.Forms.{word_of, word_form, word_from, changed_flags, changed_bits, bits_set, words_from, load_form}
 use Rattle.mm_config.specs.Forms.{loads_from, ip_of}
 
 -- 1. Flags.
@@ -72,6 +72,30 @@ length-changed [] [] e = refl
 length-changed [] (w ∷ words) e = absurd (omega (arith, e))
 length-changed (b ∷ base) [] e = absurd (omega (arith, e))
 length-changed (b ∷ base) (w ∷ words) e = ap suc (length-changed base words (omega (arith, e)))
+
+-- the words that differ, by their flags
+flagged : (base words : List Word) → length base ≡ length words → bits_set (changed_flags base words) words ≡ changed_bits base words
+flagged [] [] e = refl
+flagged [] (w ∷ words) e = absurd (omega (arith, e))
+flagged (b ∷ base) [] e = absurd (omega (arith, e))
+flagged (b ∷ base) (w ∷ words) e = by (same_word b w) (flagged base words (omega (arith, e)))
+  where
+    by : (same : Bool) → bits_set (changed_flags base words) words ≡ changed_bits base words
+        → (if not same then word_bits w ∷ bits_set (changed_flags base words) words else bits_set (changed_flags base words) words)
+        ≡ (if same then changed_bits base words else word_bits w ∷ changed_bits base words)
+    by true rest = rest
+    by false rest = ap (λ l. word_bits w ∷ l) rest
+
+pub bits_changed : (base words : List Word) (mask : ℕ) → length base ≡ length words → mask ≡ number_of_flags (changed_flags base words)
+    → bits_set (flags (length words) mask) words ≡ changed_bits base words
+bits_changed base words mask e is =
+    ap (λ n. bits_set (flags (length words) n) words) is
+    ∙ ap (λ l. bits_set l words) (flags_of (length words) (changed_flags base words) (length-changed base words e))
+    ∙ flagged base words e
+
+pub none_set : (words : List Word) → bits_set (flags (length words) 0) words ≡ []
+none_set [] = refl
+none_set (w ∷ words) = none_set words
 
 -- a load that can be kept
 pub record IsLoad (p : Pending) : Type 0 where

@@ -51,6 +51,11 @@ changed_bits (b ∷ base) (w ∷ words) =
     if same_word b w then changed_bits base words else word_bits w ∷ changed_bits base words
 changed_bits _ _ = []
 
+-- the bits of the words whose flags are set
+abbrev pub bits_set : List Bool → List Word → List ℕ
+bits_set (f ∷ flags) (w ∷ words) = if f then word_bits w ∷ bits_set flags words else bits_set flags words
+bits_set _ _ = []
+
 abbrev pub words_from : (changed tagged : List Bool) → List Word → List ℕ → List Word × List ℕ
 words_from (c ∷ changed) (t ∷ tagged) (b ∷ base) ns =
     let later = words_from changed tagged base (if c then behind ns else ns) in

@@ -11,6 +11,7 @@ ghost use Rattle.mm_config.specs.Keeping.{Stands};
 ghost use Rattle.mm_config.specs.Machines.{Configs as ConfigsValue, Keeps, AreApart};
 
 use crate::changes::mask_of;
+use crate::hashing::NameHashing;
 use crate::names::Names;
 use crate::store::Store;
 use indexmap::IndexSet;
@@ -52,7 +53,7 @@ pub struct Configs {
     /// The name of all of them but the slots.
     pub(crate) rest: u32,
     /// The names of each configuration that was kept: of the slots, and of the rest.
-    pub(crate) kept: IndexSet<(u32, u32)>,
+    pub(crate) kept: IndexSet<(u32, u32), NameHashing>,
     // Room for what a call needs.
     pub(crate) slots: Vec<Slot>,
     pub(crate) revision: Revision,
@@ -94,7 +95,7 @@ impl Configs {
             depth: depth_for(img.slots().len()),
             names: Names::NONE,
             rest: 0,
-            kept: IndexSet::new(alloc),
+            kept: IndexSet::with_hasher(alloc, NameHashing),
             slots: Slot::copies(alloc, img.slots())?,
             revision: Revision::new(alloc),
             changed: Vec::new(alloc),

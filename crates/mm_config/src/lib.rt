@@ -19,6 +19,7 @@ mod cells;
 mod changes;
 mod configs;
 mod events;
+mod hashing;
 mod laws;
 mod lists;
 mod memory;

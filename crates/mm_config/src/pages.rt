@@ -98,15 +98,26 @@ pub(crate) fn page_of(store: &Store, names: &Names, number: u64) -> u32
     store.pairs.leaf(names.pages, names.height, place)
 }
 
-/// Whether trees of one depth have names at the same places: whether the same pages are mapped.
+/// Whether trees of one depth have names at the same places: whether the same pages are mapped. It is a part of its
+/// callers, so that equal halves take no call.
+#[cycle(has_same_places)]
+#[inline(always)]
 pub(crate) fn has_same_places(pairs: &Pairs, was: u32, tree: u32, depth: u32) -> bool
     requires was { IsTree pairs.now depth was }
     requires tree { IsTree pairs.now depth tree }
     ensures { IsTrue result → HaveSamePlaces pairs.now depth was tree }
 {
-    if was == tree {
-        return true;
-    }
+    was == tree || other_has_same_places(pairs, was, tree, depth)
+}
+
+/// Whether trees of one depth that are not the same have names at the same places.
+#[cycle(has_same_places)]
+#[inline(never)]
+fn other_has_same_places(pairs: &Pairs, was: u32, tree: u32, depth: u32) -> bool
+    requires was { IsTree pairs.now depth was }
+    requires tree { IsTree pairs.now depth tree }
+    ensures { IsTrue result → HaveSamePlaces pairs.now depth was tree }
+{
     if depth == 0 {
         return was != 0 && tree != 0;
     }

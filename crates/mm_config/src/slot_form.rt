@@ -1,21 +1,21 @@
 //! A slot as its difference from the slot of the image.
 
-ghost use Rattle.std.specs.Prelude.{◌≡◌, ◌+◌, ◌%◌, ◌/◌, ◌<◌, ◌≤◌, ◌^◌, ◌++◌, if◌then◌else◌, OnOk, length, map, take, true};
+ghost use Rattle.std.specs.Prelude.{◌≡◌, ◌+◌, ◌%◌, ◌/◌, ◌<◌, ◌≤◌, ◌^◌, ◌++◌, if◌then◌else◌, OnOk, length, map, not, take, true};
 ghost use Rattle.std.specs.List.{AllByRecursion, flat_map};
 ghost use Rattle.mm_word.specs.Perm.{can_fetch};
 ghost use Rattle.mm_word.specs.Pointer.{IsWellFormed};
 ghost use Rattle.mm_word.specs.Word.{IsWord, is_pointer};
 ghost use Rattle.mm_model.specs.declared.slot.Pending.{Pending as PendingValue};
-ghost use Rattle.mm_model.specs.Flags.{flags, number_of_flags};
+ghost use Rattle.mm_model.specs.{Effect.same_word, Flags.{flags, number_of_flags}};
 ghost use Rattle.mm_config.specs.StateNumbers.{state_number as state_number_of};
 ghost use Rattle.mm_config.specs.Forms.{state_at as state_at_of, word_of as word_of_bits};
-ghost use Rattle.mm_config.specs.Forms.{ip_of as ip_of_bits, word_form, word_from, changed_flags, changed_bits};
+ghost use Rattle.mm_config.specs.Forms.{ip_of as ip_of_bits, word_form, word_from, changed_flags, bits_set};
 ghost use Rattle.mm_config.specs.Forms.{words_from, few_loads as few_loads_of, slot_head};
 ghost use Rattle.mm_config.specs.Forms.{first_number, behind, load_form, loads_from, slot_form, slot_from};
 
 use crate::reader::Reader;
 use arrayvec::ArrayVec;
-use mm_model::{Pending, Slot, SlotState, is_same_word};
+use mm_model::{Pending, Slot, SlotState};
 use mm_word::{Cause, GuardedPtr, Kind, Word};
 use std::alloc::AllocError;
 
@@ -84,6 +84,15 @@ pub(crate) fn take_word(reader: &mut Reader<'_>) -> Word
 
 // 3. Registers.
 
+/// Whether two words differ: in their tags or in their bits. There is no branch in it, since each register of each slot that
+/// is noted is compared.
+#[inline(always)]
+fn differs(a: &Word, b: &Word) -> bool
+    ensures { result ≡ not (same_word a.now b.now) }
+{
+    (a.is_pointer() != b.is_pointer()) | (a.bits() != b.bits())
+}
+
 /// Which registers differ, the first in the lowest bit.
 fn changed_mask(base: &[Word; 16], words: &[Word; 16]) -> u64
     ensures value { result ≡ number_of_flags (changed_flags base.now words.now) }
@@ -91,7 +100,7 @@ fn changed_mask(base: &[Word; 16], words: &[Word; 16]) -> u64
 {
     let mut mask = 0;
     for r in 0..16 {
-        mask += (!is_same_word(base[r], words[r]) as u64) << r;
+        mask += (differs(&base[r], &words[r]) as u64) << r;
     }
     mask
 }
@@ -108,21 +117,21 @@ fn pointer_mask(words: &[Word; 16]) -> u64
     mask
 }
 
-/// Appends the bits of the words that differ.
-fn put_changed(out: &mut Vec<u64>, base: &[Word], words: &[Word]) -> Result<(), AllocError>
-    ensures { OnOk result (out.new.items ≡ out.old.items ++ changed_bits base.now words.now) }
+/// Appends the bits of the words that are set in a mask, the first in the lowest bit.
+fn put_bits(out: &mut Vec<u64>, mask: u64, words: &[Word]) -> Result<(), AllocError>
+    ensures { OnOk result (out.new.items ≡ out.old.items ++ bits_set (flags (length words.now) mask) words.now) }
 {
-    match base {
+    if mask == 0 {
+        return Ok(());
+    }
+    match words {
         [] => Ok(()),
-        [b, base @ ..] => match words {
-            [] => Ok(()),
-            [w, words @ ..] => {
-                if !is_same_word(*b, *w) {
-                    out.push(w.bits())?;
-                }
-                put_changed(out, base, words)
+        [word, rest @ ..] => {
+            if mask % 2 == 1 {
+                out.push(word.bits())?;
             }
-        },
+            put_bits(out, mask / 2, rest)
+        }
     }
 }
 
@@ -139,7 +148,7 @@ fn take_changed(reader: &mut Reader<'_>, changed: bool, tagged: bool, base: &Wor
 }
 
 /// Reads words, those that differ from the ones of the image, into the registers from an index on.
-#[tactic(auto, using(crate::proofs::Taking::words_more))]
+#[tactic(auto, using(crate::proofs::Taking::words_more, crate::proofs::Taking::words_none))]
 fn take_words(
     reader: &mut Reader<'_>,
     changed: u64,
@@ -154,6 +163,11 @@ fn take_words(
     ensures rest { reader.new
         ≡ (words_from (flags (length base.now) changed) (flags (length base.now) tagged) base.now reader.old).1 }
 {
+    if changed == 0 {
+        let all = &mut regs[..];
+        all[at..].copy_from_slice(base);
+        return;
+    }
     if let [first, rest @ ..] = base {
         regs[at] = take_changed(reader, changed % 2 == 1, tagged % 2 == 1, first);
         take_words(reader, changed / 2, tagged / 2, rest, at + 1, regs);
@@ -236,7 +250,7 @@ fn head_of(slot: &Slot) -> u64
 }
 
 /// Appends the difference of a slot from that of the image.
-#[tactic(auto, unfolding(crate::specs::Forms::slot_form))]
+#[tactic(auto, unfolding(crate::specs::Forms::slot_form), using(crate::proofs::WordForms::bits_changed))]
 pub(crate) fn put_slot(out: &mut Vec<u64>, base: &Slot, slot: &Slot) -> Result<(), AllocError>
     ensures { OnOk result (out.new.items ≡ out.old.items ++ slot_form base.now slot.now) }
 {
@@ -244,7 +258,7 @@ pub(crate) fn put_slot(out: &mut Vec<u64>, base: &Slot, slot: &Slot) -> Result<(
     out.push(head_of(slot))?;
     out.push(changed + 65536 * pointer_mask(&slot.regs))?;
     out.push(slot.ip.bits())?;
-    put_changed(out, &base.regs, &slot.regs)?;
+    put_bits(out, changed, &slot.regs)?;
     put_loads(out, slot.pending.as_slice())
 }
 

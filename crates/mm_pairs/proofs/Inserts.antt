@@ -1,11 +1,11 @@
 -- What stands once among what is kept, and what one key more leaves.
-use Rattle.std.proofs.Common.{◌≡◌, ℕ, zero, suc, ◌+◌, ◌<◌, ◌≤◌, Bool, true, false, ◌&&◌, nat_eq, List, [], ◌∷◌, ◌++◌, map, length, take, slice_get, slice_index_or, position, if◌then◌else◌, Some, inl, inr, ◌-◌}
+use Rattle.std.proofs.Common.{◌≡◌, ℕ, zero, suc, ◌+◌, ◌<◌, ◌≤◌, Bool, true, false, ◌&&◌, nat_eq, List, [], ◌∷◌, ◌++◌, map, length, take, slice_get, slice_index_or, slice_set, replicate, position, if◌then◌else◌, Some, inl, inr, ◌-◌}
 use Rattle.std.proofs.Common.{refl, sym, ap, ◌∙◌, subst, arith, eqb-true, eq-eqb}
 use Rattle.std.proofs.Math.Seq.{take-length, take-append_seam}
 use Rattle.std.proofs.lemmas.{List.{length-map, map-append, Quantifiers.position-Some}, Option.{get_or_from_slice_get, slice_get-get_or, slice_get-map, slice_get_cases, slice_get_within}}
 use Rattle.std.specs.{List.{IsDistinct, AllByRecursion, list_any}, Option.option_map}
 use Rattle.indexmap.specs.IndexSet.{insert_key}
-use Rattle.mm_pairs.specs.Named.{named, HasGrown, HaveOneName, IsNameOf}
+use Rattle.mm_pairs.{specs.Named.{named, HasGrown, HaveOneName, IsNameOf, AreNamed}, proofs.Names.name_stays}
 
 -- 1. What is at the place of a name.
 
@@ -106,3 +106,29 @@ is_same x y e = by (nat_eq x.0 y.0) refl e
 
 pub own_pair : (x y : ℕ × ℕ) → x ≡ y → same_pair x y ≡ true
 own_pair x y e = ap (λ b. b && nat_eq x.1 y.1) (eq-eqb x.0 y.0 (ap (λ p. p.0) e)) ∙ eq-eqb x.1 y.1 (ap (λ p. p.1) e)
+
+-- 4. Names that stand beside what they are of.
+
+module _ {X : Type 0} (P : X → Type 0) where
+  pub each_set : (xs : List X) (at : ℕ) (x : X) → AllByRecursion P xs → P x → AllByRecursion P (slice_set xs at x)
+  each_set [] at x ps p = tt
+  each_set (y ∷ xs) zero x ps p = (p, ps.1)
+  each_set (y ∷ xs) (suc at) x ps p = (ps.0, each_set xs at x ps.1 p)
+
+  each_copy : (n : ℕ) (x : X) → P x → AllByRecursion P (replicate n x)
+  each_copy zero x p = tt
+  each_copy (suc n) x p = (p, each_copy n x p)
+
+  -- the first ones of a list, and copies after them
+  pub each_filled : (n k : ℕ) (xs : List X) (x : X) → AllByRecursion P xs → P x → AllByRecursion P (take n xs ++ replicate k x)
+  each_filled zero k xs x ps p = each_copy k x p
+  each_filled (suc n) k [] x ps p = each_copy k x p
+  each_filled (suc n) k (y ∷ xs) x ps p = (ps.0, each_filled n k xs x ps.1 p)
+
+pub named_still : {A : Type 0} (none : A) (old new : List A) → HasGrown old new → (names : List (A × ℕ)) → AreNamed none old names → AreNamed none new names
+named_still none old new grown [] all = tt
+named_still none old new grown (x ∷ names) all = (name_stays none old new grown x.1 x.0 all.0, named_still none old new grown names all.1)
+
+-- the name of what is not kept
+pub none_named : {A : Type 0} (none : A) (kept : List A) → IsNameOf none kept 0 none
+none_named none kept = record { within = omega arith; is = refl }

@@ -13,17 +13,30 @@ use std::marker::Model;
 #[derive(Drop)]
 pub struct Pairs {
     pairs: IndexSet<(u32, u32)>,
+    /// Pairs that were joined lately, each with its name, at the place that it asks for. There is none before the first.
+    recent: Vec<((u32, u32), u32)>,
 }
 
 impl Model for Pairs {
     ghost use Rattle.std.specs.Prelude.{◌≡◌, ℕ, List};
     ghost use Rattle.std.specs.List.{AllByRecursion};
+    ghost use Rattle.mm_pairs.specs.Named.{AreNamed};
 
     ghost Value = { List (ℕ × ℕ) };
 
     ghost view = { λ p. p.pairs.keys };
 
-    ghost invariant = { λ p. AllByRecursion (λ pair. pair ≡ (0, 0) → ⊥) p.pairs.keys };
+    ghost invariant = { λ p. AllByRecursion (λ pair. pair ≡ (0, 0) → ⊥) p.pairs.keys
+        × AreNamed (0, 0) p.pairs.keys p.recent.items };
+}
+
+/// How many places there are for pairs that were joined lately.
+const PLACES: usize = 4096;
+
+/// The place that a pair asks for among those that were joined lately.
+fn place_of(left: u32, right: u32) -> usize {
+    let mixed = left.wrapping_mul(0x9e37_79b9) ^ right.wrapping_mul(0x85eb_ca6b);
+    (mixed >> 20) as usize
 }
 
 impl Pairs {
@@ -33,11 +46,28 @@ impl Pairs {
     {
         Pairs {
             pairs: IndexSet::new(alloc),
+            recent: Vec::new(alloc),
         }
     }
 
     /// The name of a pair, which is kept if it is new.
     pub fn join(&mut self, left: u32, right: u32) -> Result<u32, AllocError>
+        ensures name { IfOk result (λ name. IsNameOf (0, 0) self.new name (left, right)) }
+        ensures grown { HasGrown self.old self.new }
+    {
+        let place = place_of(left, right);
+        if let Some((pair, name)) = self.recent.get(place) {
+            if pair.0 == left && pair.1 == right {
+                return Ok(*name);
+            }
+        }
+        let name = self.find(left, right)?;
+        self.remember(place, (left, right), name)?;
+        Ok(name)
+    }
+
+    /// The name of a pair, which is kept if it is new, wherever it was joined last.
+    fn find(&mut self, left: u32, right: u32) -> Result<u32, AllocError>
         ensures name { IfOk result (λ name. IsNameOf (0, 0) self.new name (left, right)) }
         ensures grown { HasGrown self.old self.new }
     {
@@ -49,6 +79,28 @@ impl Pairs {
         }
         let (at, _) = self.pairs.insert_full((left, right))?;
         Ok(at as u32 + 1)
+    }
+
+    /// Remembers the name of a pair that was just joined, at the place that it asks for.
+    fn remember(&mut self, place: usize, pair: (u32, u32), name: u32) -> Result<(), AllocError>
+        requires { IsNameOf (0, 0) self.old name pair }
+        ensures { self.new ≡ self.old }
+    {
+        self.make_places()?;
+        if place < self.recent.len() {
+            self.recent[place] = (pair, name);
+        }
+        Ok(())
+    }
+
+    /// Makes the places for pairs that were joined lately, if there are none yet.
+    fn make_places(&mut self) -> Result<(), AllocError>
+        ensures { self.new ≡ self.old }
+    {
+        if self.recent.is_empty() {
+            self.recent.resize(PLACES, ((0, 0), 0))?;
+        }
+        Ok(())
     }
 
     /// Says, for proofs, that each pair and each tree has one name. The call does nothing.

@@ -1,6 +1,6 @@
 //! Full binary trees of pairs, with names at their leaves.
 
-ghost use Rattle.std.specs.Prelude.{◌≡◌, ◌+◌, ◌<◌, ◌≤◌, ◌^◌, ◌++◌, IfOk, OnOk, slice_set, slice_index_or};
+ghost use Rattle.std.specs.Prelude.{◌≡◌, ◌≢◌, ◌+◌, ◌<◌, ◌≤◌, ◌^◌, ◌++◌, IfOk, OnOk, slice_set, slice_index_or};
 ghost use Rattle.mm_pairs.specs.Named.{HasGrown};
 ghost use Rattle.mm_pairs.specs.Trees.{IsTree, leaves, HasLeaves, changed};
 
@@ -56,7 +56,9 @@ impl Pairs {
     }
 
     /// Appends the places at which a tree differs from another of the same depth, from a first one on, each with its leaf
-    /// there.
+    /// there. It is a part of its callers, so that equal halves take no call.
+    #[cycle(list_changed)]
+    #[inline(always)]
     pub fn list_changed(
         &self,
         was: u32,
@@ -75,6 +77,28 @@ impl Pairs {
         if was == tree {
             return Ok(());
         }
+        self.list_other(was, tree, depth, first, out)
+    }
+
+    /// Appends the places at which a tree differs from another that is not the same, as `list_changed` does.
+    #[cycle(list_changed)]
+    #[inline(never)]
+    fn list_other(
+        &self,
+        was: u32,
+        tree: u32,
+        depth: u32,
+        first: u64,
+        out: &mut Vec<(u64, u32)>,
+    ) -> Result<(), AllocError>
+        requires other { was ≢ tree }
+        requires was { IsTree self.now depth was }
+        requires tree { IsTree self.now depth tree }
+        requires depth { depth < 64 }
+        requires room { first + 2 ^ depth < 2 ^ 64 }
+        ensures { OnOk result (out.new.items
+            ≡ out.old.items ++ changed first (leaves self.now depth was) (leaves self.now depth tree)) }
+    {
         if depth == 0 {
             out.push((first, tree))?;
             return Ok(());

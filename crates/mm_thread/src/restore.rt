@@ -11,7 +11,7 @@ ghost use Rattle.mm_thread.specs.Output.{Output as OutputValue};
 ghost use Rattle.mm_thread.specs.SlotIndices.{row_alone, numbers_in};
 ghost use Rattle.mm_thread.specs.Tables.{AreNumbered};
 ghost use Rattle.mm_thread.specs.Parts.{events_for, row_with, outputs_with};
-ghost use Rattle.mm_thread.specs.Revisions.{with_slots, with_queues, with_outputs, queue_in_place, extension};
+ghost use Rattle.mm_thread.specs.Revisions.{with_slots, with_queues, with_outputs, queue_in_place, extension, queues_in, outputs_in};
 
 use crate::output::Output;
 use crate::tables::Tables;
@@ -28,18 +28,15 @@ pub struct Revision {
 }
 
 impl Revision {
-    /// Nothing.
-    pub fn new(alloc: Global) -> Revision {
+    /// No queues and no outputs.
+    pub fn new(alloc: Global) -> Revision
+        ensures queues { queues_in result ≡ [] }
+        ensures outputs { outputs_in result ≡ [] }
+    {
         Revision {
             queues: Vec::new(alloc),
             outputs: Vec::new(alloc),
         }
-    }
-
-    /// Makes it nothing.
-    pub fn clear(&mut self) {
-        self.queues.clear();
-        self.outputs.clear();
     }
 }
 

@@ -2,8 +2,8 @@ use Rattle.std.proofs.Common.{◌≡◌, suc, ◌-◌, arith}
 use Rattle.mm_config.proofs.SamePlaces.{same_halves}
 use Rattle.mm_config.proofs.pages.+has_same_places.Goals as goal
 
-pub returns : goal.returns
-returns t c = λ yes.
+pub other_has_same_places-returns : goal.other_has_same_places-returns
+other_has_same_places-returns t c = λ yes.
     let d = c.args.depth - 1 in
     let some = c.if-depth-eq0.false in
     let is : c.args.depth ≡ suc d = omega (arith, some) in

@@ -5,14 +5,14 @@ use Rattle.mm_pairs.specs.Trees.{leaves, changed}
 use Rattle.mm_pairs.proofs.{Names.two, Changes.{changed_none, listed}}
 use Rattle.mm_pairs.proofs.pairs.Pairs.+list_changed.Goals as goal
 
-pub returns-then-was-tree : goal.returns-then-was-tree
-returns-then-was-tree t c =
+pub list_changed-returns-then-was-tree : goal.list_changed-returns-then-was-tree
+list_changed-returns-then-was-tree t c =
     let names = leaves c.args.self.now c.args.depth c.args.tree in
     sym (append-nil c.args.out.now.items) ∙ ap (λ l. c.args.out.now.items ++ l)
     (sym (ap (λ n. changed c.args.first (leaves c.args.self.now c.args.depth n) names) c.if-was-tree.true ∙ changed_none c.args.first names))
 
-pub list_changed-requires-2 : goal.list_changed-requires-2
-list_changed-requires-2 t c =
+pub list_other-list_changed-requires-2 : goal.list_other-list_changed-requires-2
+list_other-list_changed-requires-2 t c =
     let d = c.args.depth - 1 in
     let small = c.requires.depth in
     let room = c.requires.room in
@@ -25,8 +25,8 @@ list_changed-requires-2 t c =
     let inner_tree = (two now c.args.depth d c.args.tree 0 c.parts-left.result is c.parts-left.ensures c.requires.tree).1 in
     (omega arith, (inner_was, (inner_tree, (omega arith, omega (arith, half, twice, more, room)))))
 
-pub returns : goal.returns
-returns t c =
+pub list_other-returns : goal.list_other-returns
+list_other-returns t c =
     let d = c.args.depth - 1 in
     let small = c.requires.depth in
     let is : c.args.depth ≡ suc d = omega arith in
