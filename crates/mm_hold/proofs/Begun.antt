@@ -17,11 +17,11 @@ use Rattle.mm_confine.specs.declared.party.Party.{Party, TheVariants.{Group, Ker
 use Rattle.mm_confine.specs.Grants.{Granted, Line.Holds}
 use Rattle.mm_confine.specs.Grants.Granted.{runs_itself, in_register, runs_by, below, has_exactly, lets_out}
 use Rattle.mm_span.proofs.Members.{in_first, in_rest, in_cases, in_flat, flat_in}
-use Rattle.mm_hold.specs.declared.{conduct.Conduct.Conduct, marks.Marks.Marks}
+use Rattle.mm_hold.specs.declared.{conduct.Conduct.Conduct, graph.Start.Start, marks.Marks.Marks}
 use Rattle.mm_hold.specs.Conducts.{AreConduct, HasOrLets, HasOrLets.{has, lets}, IsSpelled, origin_from, origin_numbers}
 use Rattle.mm_hold.specs.{Finding.{caller_seeds, held_key, held_word, word_seed}, Marks.{Held, HasSize}}
 use Rattle.mm_hold.specs.Exactly.{Covered, Covered.{powerless, above}, IsSound}
-use Rattle.mm_hold.specs.Graphs.{bits_key, found_of, had_seeds, seed_number}
+use Rattle.mm_hold.specs.Graphs.{IsStart, bits_key, found_of, had_seeds, seed_number}
 use Rattle.mm_hold.specs.Standing.{AreStarted, HasKeys}
 use Rattle.mm_hold.proofs.HeldKeys.{held_none, held_above, held_below, word_pointer, seed_there, seed_from, spelled_well_formed, key_there, key_from}
 use Rattle.mm_hold.proofs.{Handed.{fresh, group_small, kernel_small}, Keyed.{has_means, has_noted}, Listing.{if_in, in_if}}
@@ -262,3 +262,9 @@ begun i kept img c k keys m callers threads seeds ci ti si is gs ss =
       sound = start_sound i kept img c k keys m own groups slots;
       started = started i kept img c k keys m own groups slots;
     }
+
+pub begun_by : (i : Image) (kept : List Segment) (img : IsImage i) (c : Conduct) (k : AreConduct i kept c) (callers threads : List Seed)
+    → callers ≡ callers_in i kept → threads ≡ flat_map (had_seeds i kept) c.has.keys → (s : Start) → IsStart i kept callers threads s
+    → IsBegun i kept s.graph.keys.items (record { groups = s.groups; slots = s.slots })
+begun_by i kept img c k callers threads ci ti s h =
+    begun i kept img c k s.graph.keys.items (record { groups = s.groups; slots = s.slots }) callers threads (callers ++ threads) ci ti refl h.built.is_keys h.groups h.slots

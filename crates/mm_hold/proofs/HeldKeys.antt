@@ -1,16 +1,16 @@
 -- The pointers for which a key stands, and those that bits spell.
-use Rattle.std.proofs.Common.{◌≡◌, ℕ, ◌/◌, ◌^◌, inl, inr, Bool, true, false, if◌then◌else◌, List, [], Option, Some, None}
+use Rattle.std.proofs.Common.{◌≡◌, ℕ, ◌<◌, ◌/◌, ◌^◌, length, inl, inr, Bool, true, false, if◌then◌else◌, List, [], Option, Some, None}
 use Rattle.std.proofs.Common.{refl, sym, ap, ◌∙◌, subst}
-use Rattle.std.proofs.lemmas.Bool.{and_from, le-leb}
-use Rattle.std.specs.Prelude.{Contains}
+use Rattle.std.proofs.lemmas.{List.get_or_default, Bool.{and_from, le-leb}}
+use Rattle.std.specs.Prelude.{Contains, MatchOption}
 use Rattle.mm_word.specs.declared.word.{Word.{Word, TheVariants.{Int, Ptr}}, Cell.Cell}
 use Rattle.mm_word.specs.Pointer.{Pointer, IsBelow, IsWellFormed, SpellsPointer, pointer_of, spells_pointer}
 use Rattle.mm_model.proofs.Bytes.{CleanWords.{spells, well_formed as spelled_fits}, SpelledRecords.known_codes}
 use Rattle.mm_graph.specs.declared.{canonical_ptr.CanonicalPtr.CanonicalPtr, found.Found.Found, seed.Seed.Seed}
-use Rattle.mm_graph.specs.{Key.{key_of, pointer_at, standing_key}, Found.{found_at, seed_at}, Summary.IsPowerless}
+use Rattle.mm_graph.specs.{Key.{key_at, key_of, no_key, pointer_at, standing_key}, Found.{found_at, seed_at}, Summary.IsPowerless}
 use Rattle.mm_graph.proofs.Representatives.{pointer_at-key_of, stands_from, stands_above, stands_below, standing_none}
 use Rattle.mm_kernel.specs.Segments.{Segment, is_door, is_kept}
-use Rattle.mm_hold.specs.{Finding.{cell_found, held_key, held_word}, Graphs.bits_key}
+use Rattle.mm_hold.specs.{Finding.{cell_found, held_key, held_word}, Graphs.{BitsAt, IsBitsNode, bits_key}}
 use Rattle.mm_span.proofs.Members.{none_in, in_first, in_cases}
 
 -- 1. What a key stands for.
@@ -98,3 +98,15 @@ module _ (kept : List Segment) (bits : ℕ) where
       by : (b : Bool) → spells_pointer bits ≡ b → (if b then held_key kept (pointer_of bits) else None) ≡ Some k → SpellsPointer bits × (held_key kept (pointer_of bits) ≡ Some k)
       by true t e = (spells bits t, e)
       by false t e = cc
+
+  pub node_none : (keys : List CanonicalPtr) → bits_key kept bits ≡ None → (k : ℕ) → BitsAt kept keys bits k → ⊥
+  node_none keys e k at = let there = key_there at.spells in let is = at.is in absurd (cc)
+
+  pub node_found : (keys : List CanonicalPtr) (key : CanonicalPtr) → bits_key kept bits ≡ Some key → (o : Option ℕ)
+      → MatchOption o (Contains keys key → ⊥) (λ k. (k < length keys) × (key_at keys k ≡ key)) → IsBitsNode kept keys bits o
+  node_found keys key e None h = λ k at.
+      let own = (key_from key e).1 in
+      let is = at.is in
+      let same : key_at keys k ≡ key = cc in
+      h (k, at.small, get_or_default keys k key no_key at.small ∙ same)
+  node_found keys key e (Some k) h = let own = key_from key e in record { spells = own.0; small = h.0; is = own.1 ∙ ap Some (sym h.1) }

@@ -29,6 +29,12 @@ put_next f old xs k now new x lt at was is =
     is ∙ ap (λ l. l ++ f x) was ∙ flat_map_more f old (take k xs) x
     ∙ ap (λ l. old ++ flat_map f l) (sym (take_more xs k x lt ∙ ap (λ y. take k xs ++ y ∷ []) (sym at)))
 
+-- with the element at the next index, of a slice of values
+pub put_at : {X A : Type 0} (f : X → List A) (old : List A) (xs : List X) (k : ℕ) (now new : List A) (d : X) → k < length xs
+    → now ≡ old ++ flat_map f (take k xs) → new ≡ now ++ f (get_or xs k d) → new ≡ old ++ flat_map f (take (k + 1) xs)
+put_at f old xs k now new d lt was is =
+    is ∙ ap (λ l. l ++ f (get_or xs k d)) was ∙ flat_map_more f old (take k xs) (get_or xs k d) ∙ ap (λ l. old ++ flat_map f l) (sym (take_more xs k d lt))
+
 module _ {X : Type 0} where
   pub if_in : (b : Bool) (xs : List X) (x : X) → Contains (if b then xs else []) x → (b ≡ true) × Contains xs x
   if_in true xs x h = (refl, h)

@@ -1,5 +1,5 @@
 -- How the graph of the pointers that parties may come to hold is made, and the nodes of pointers that are handed on.
-use Rattle.std.specs.Prelude.{◌≡◌, ℕ, ◌-◌, ◌^◌, ◌<◌, ◌==◌, ◌&&◌, nat_lt, not, if◌then◌else◌, List, length, map, All}
+use Rattle.std.specs.Prelude.{◌≡◌, ℕ, ◌-◌, ◌^◌, ◌<◌, ◌==◌, ◌&&◌, nat_lt, not, if◌then◌else◌, List, ◌++◌, length, map, All}
 use Rattle.std.specs.Prelude.{Contains, Option, Some, None}
 use Rattle.mm_word.specs.Pointer.{SpellsPointer, pointer_of, spells_pointer}
 use Rattle.mm_model.specs.Image.{Image}
@@ -7,9 +7,9 @@ use Rattle.mm_flow.specs.declared.node.Right.TheVariants.{Load, Store}
 use Rattle.mm_flow.specs.{Edges.right_at, Flow.Fits}
 use Rattle.mm_graph.specs.declared.{canonical_ptr.CanonicalPtr.CanonicalPtr, found.Found.Found, seed.Seed.Seed}
 use Rattle.mm_graph.specs.Key.{IsKey, IsRising, key_at, pointer_at, loads_words, stores_words}
-use Rattle.mm_graph.specs.{Found.seed_at, Nodes.{IsAscending, IsKeysOf, IsNodes, IsTargets}, Forest.HasForest, Marked.node_pointer}
+use Rattle.mm_graph.specs.{Found.seed_at, Nodes.{IsAscending, IsKeysOf, IsMarks, IsNodes, IsTargets}, Forest.HasForest, Marked.node_pointer}
 use Rattle.mm_kernel.specs.{Segments.{Segment, is_door, is_enter}, Threads.is_kernel}
-use Rattle.mm_hold.specs.declared.edges.Graph.{Graph}
+use Rattle.mm_hold.specs.declared.{edges.Graph.Graph, graph.Start.Start}
 use Rattle.mm_hold.specs.{Finding.{cell_found, held_key, pages_with}, Passing.DoorAt, Standing.edges_in}
 
 -- 1. Nodes of pointers.
@@ -62,6 +62,12 @@ pub record IsBuilt (i : Image) (kept : List Segment) (seeds : List Seed) (g : Gr
   pub is_nodes : IsNodes g.keys.items (found_of i kept) (map (entry_mask kept) g.keys.items) g.nodes.items
   pub is_targets : IsTargets g.keys.items (found_of i kept) g.targets.items
   pub has_forest : HasForest g.keys.items g.parents.items
+
+-- a graph with the pointers of callers and of threads, and where the marks start that these make
+pub record IsStart (i : Image) (kept : List Segment) (callers threads : List Seed) (s : Start) : Type 0 where
+  pub built : IsBuilt i kept (callers ++ threads) s.graph
+  pub groups : IsMarks s.graph.keys.items callers s.groups.items
+  pub slots : IsMarks s.graph.keys.items threads s.slots.items
 
 -- the parts of a graph are of one size, and its nodes have the rights of their pointers
 pub record IsShaped (g : Graph) : Type 0 where

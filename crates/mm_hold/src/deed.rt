@@ -1,7 +1,9 @@
 //! What threads do with the pointers of others.
 
+ghost use Rattle.std.specs.Prelude.{◌≡◌, ◌++◌, ◌∷◌, [], OnOk};
+
 use mm_kernel::Origin;
-use mm_word::GuardedPtr;
+use mm_word::{GuardedPtr, NoMemory};
 
 /// Something that threads of the kernel do with pointers of others.
 #[derive(Clone, Copy)]
@@ -24,4 +26,12 @@ pub enum Deed {
     Sees(u8),
     /// Threads of a slot go on as callers.
     GoesOn(u8),
+}
+
+/// Appends a value.
+pub fn put<T: Drop>(values: &mut Vec<T>, value: T) -> Result<(), NoMemory>
+    ensures { OnOk result (values.new.items ≡ values.old.items ++ (value ∷ [])) }
+{
+    values.push(value)?;
+    Ok(())
 }

@@ -3,11 +3,12 @@
 ghost use Rattle.std.specs.List.{flat_map};
 ghost use Rattle.std.specs.Prelude.{◌≡◌, ◌⊎◌, ◌&&◌, ◌++◌, All, Contains, IfOk, IfSome, OnOk, length, map, not};
 ghost use Rattle.mm_graph.specs.Key.{IsKey, IsRising};
+ghost use Rattle.mm_graph.specs.Nodes.{IsNodes};
 ghost use Rattle.mm_kernel.specs.Segments.{is_door, is_enter};
 ghost use Rattle.mm_hold.specs.Conducts.{AreAll, AreConduct};
 ghost use Rattle.mm_hold.specs.Exactly.{IsSound};
 ghost use Rattle.mm_hold.specs.Graphs.{ArePlaces, BehindAt, HandedAt, HandsAt, IsBitsNode, IsBuilt, IsShaped};
-ghost use Rattle.mm_hold.specs.Graphs.{ThroughDoor, bits_key, entry_mask, had_seeds, seed_number};
+ghost use Rattle.mm_hold.specs.Graphs.{IsStart, ThroughDoor, bits_key, entry_mask, found_of, had_seeds, seed_number};
 ghost use Rattle.mm_hold.specs.Marks.{HasSize};
 ghost use Rattle.mm_hold.specs.Standing.{AreStarted, HasKeys, IsGraphOf};
 
@@ -16,6 +17,7 @@ use crate::edges::Graph;
 use crate::found::{callers, found_in, key_in};
 use crate::giving::{NodePair, SlotNode};
 use crate::passing::door_node;
+use mm_flow::Node;
 use mm_graph::{CanonicalPtr, Found, Seed, find, keys_and_targets, marks_of, nodes_of, parents_of};
 use mm_keep::{Kernel, is_door};
 use mm_word::{GuardedPtr, NoMemory, Perm, Word};
@@ -150,27 +152,53 @@ fn places_of(alloc: Global, kernel: &Kernel, seeds: Vec<Seed>) -> Result<Places,
     })
 }
 
+/// The nodes for these keys.
+fn nodes_for(alloc: Global, kernel: &Kernel, places: &Places) -> Result<Vec<Node>, NoMemory>
+    requires { ArePlaces kernel.now.image kernel.now.kept places.now.seeds.items places.now.found.items
+        places.now.keys.items places.now.targets.items }
+    ensures { IfOk result (λ nodes. IsNodes places.now.keys.items (found_of kernel.now.image kernel.now.kept)
+        (map (entry_mask kernel.now.kept) places.now.keys.items) nodes.items) }
+{
+    let masks = entry_masks(alloc, kernel, &places.keys)?;
+    Ok(nodes_of(alloc, &places.keys, &places.found, &masks)?)
+}
+
 /// The graph for these keys.
 fn graph_for(alloc: Global, kernel: &Kernel, places: Places) -> Result<Graph, NoMemory>
     requires { ArePlaces kernel.now.image kernel.now.kept places.seeds.items places.found.items places.keys.items
         places.targets.items }
     ensures { IfOk result (λ g. IsBuilt kernel.now.image kernel.now.kept places.seeds.items g) }
 {
+    let nodes = nodes_for(alloc, kernel, &places)?;
+    let parents = parents_of(alloc, &places.keys)?;
     let Places {
         seeds: _,
-        found,
+        found: _,
         keys,
         targets,
     } = places;
-    let masks = entry_masks(alloc, kernel, &keys)?;
-    let nodes = nodes_of(alloc, &keys, &found, &masks)?;
-    let parents = parents_of(alloc, &keys)?;
     Ok(Graph {
         keys,
         nodes,
         targets,
         parents,
     })
+}
+
+/// The graph with the pointers of cells and of these seeds.
+fn graph_with(
+    alloc: Global,
+    kernel: &Kernel,
+    callers: &[Seed],
+    threads: &[Seed],
+) -> Result<Graph, NoMemory>
+    requires callers { All (λ s. IsKey s.key) callers.now }
+    requires threads { All (λ s. IsKey s.key) threads.now }
+    ensures { IfOk result (λ g. IsBuilt kernel.now.image kernel.now.kept (callers.now ++ threads.now) g) }
+{
+    let seeds = all_seeds(alloc, callers, threads)?;
+    let places = places_of(alloc, kernel, seeds)?;
+    graph_for(alloc, kernel, places)
 }
 
 /// A graph, and where marks start: for each node the groups, and the slots of the kernel, that hold its pointer from
@@ -180,6 +208,27 @@ pub struct Start {
     pub graph: Graph,
     pub groups: Vec<u64>,
     pub slots: Vec<u64>,
+}
+
+/// The graph with the pointers of cells and of these seeds, and where marks start that the seeds make.
+fn start_of(
+    alloc: Global,
+    kernel: &Kernel,
+    callers: &[Seed],
+    threads: &[Seed],
+) -> Result<Start, NoMemory>
+    requires callers { All (λ s. IsKey s.key) callers.now }
+    requires threads { All (λ s. IsKey s.key) threads.now }
+    ensures { IfOk result (IsStart kernel.now.image kernel.now.kept callers.now threads.now) }
+{
+    let graph = graph_with(alloc, kernel, callers, threads)?;
+    let groups = marks_of(alloc, &graph.keys, callers)?;
+    let slots = marks_of(alloc, &graph.keys, threads)?;
+    Ok(Start {
+        graph,
+        groups,
+        slots,
+    })
 }
 
 /// The graph of a kernel, given what its threads do.
@@ -197,16 +246,7 @@ pub fn graph_of(alloc: Global, kernel: &Kernel, conduct: &Conduct) -> Result<Sta
 {
     let of_callers = callers(alloc, kernel.kept(), kernel.image().slots())?;
     let of_threads = seeds_of(alloc, kernel, conduct)?;
-    let seeds = all_seeds(alloc, &of_callers, &of_threads)?;
-    let places = places_of(alloc, kernel, seeds)?;
-    let graph = graph_for(alloc, kernel, places)?;
-    let groups = marks_of(alloc, &graph.keys, &of_callers)?;
-    let slots = marks_of(alloc, &graph.keys, &of_threads)?;
-    Ok(Start {
-        graph,
-        groups,
-        slots,
-    })
+    start_of(alloc, kernel, &of_callers, &of_threads)
 }
 
 /// The node of the pointer of these bits, if it has one.

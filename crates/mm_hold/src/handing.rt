@@ -8,7 +8,7 @@ ghost use Rattle.mm_hold.specs.Deeds.{carried, door_deeds, plain_deeds, sees, ta
 ghost use Rattle.mm_hold.specs.declared.deed.Deed.TheVariants.{Gives as AllGiven, Given as OneGiven};
 ghost use Rattle.mm_hold.specs.declared.deed.Deed.TheVariants.{Sends as AllSent, Sent as OneSent};
 
-use crate::deed::Deed;
+use crate::deed::{Deed, put};
 use mm_keep::{Kernel, is_door, is_open_pointer};
 use mm_kernel::{Form, Leak, Origin, Part, Thread};
 use mm_word::{GuardedPtr, NoMemory, Perm};
@@ -46,9 +46,10 @@ fn put_plain(
     ensures { OnOk result (deeds.new.items ≡ deeds.old.items ++ plain_deeds kept.now origin.now p) }
 {
     if is_plain(kept, p) {
-        deeds.push(Deed::Has(*origin, p))?;
+        put(deeds, Deed::Has(*origin, p))
+    } else {
+        Ok(())
     }
-    Ok(())
 }
 
 /// Appends that threads have the pointer of a form, if callers may hold it and it is no door.
@@ -102,9 +103,10 @@ fn put_door(
     ensures { OnOk result (deeds.new.items ≡ deeds.old.items ++ door_deeds kept.now origin.now p) }
 {
     if is_door(kept, p) {
-        deeds.push(Deed::Has(*origin, p))?;
+        put(deeds, Deed::Has(*origin, p))
+    } else {
+        Ok(())
     }
-    Ok(())
 }
 
 /// Appends that threads let out the door of a form, if it has one.
@@ -144,10 +146,7 @@ fn put_goes_on(deeds: &mut Vec<Deed>, origin: &Origin) -> Result<(), NoMemory>
 {
     match *origin {
         Origin::Door(_) => Ok(()),
-        Origin::Slot(slot) => {
-            deeds.push(Deed::GoesOn(slot))?;
-            Ok(())
-        }
+        Origin::Slot(slot) => put(deeds, Deed::GoesOn(slot)),
     }
 }
 
@@ -186,17 +185,16 @@ fn put_stored_out(deeds: &mut Vec<Deed>, origin: &Origin, form: &Form) -> Result
 {
     match *origin {
         Origin::Door(_) => Ok(()),
-        Origin::Slot(slot) => {
-            match *form {
-                Form::Pointer(p) => deeds.push(Deed::Sent(slot, p))?,
-                _ => {
-                    if carries(form) {
-                        deeds.push(Deed::Sends(slot))?;
-                    }
+        Origin::Slot(slot) => match *form {
+            Form::Pointer(p) => put(deeds, Deed::Sent(slot, p)),
+            _ => {
+                if carries(form) {
+                    put(deeds, Deed::Sends(slot))
+                } else {
+                    Ok(())
                 }
             }
-            Ok(())
-        }
+        },
     }
 }
 
@@ -228,17 +226,16 @@ pub fn put_written(deeds: &mut Vec<Deed>, origin: &Origin, form: &Form) -> Resul
 {
     match *origin {
         Origin::Door(_) => Ok(()),
-        Origin::Slot(slot) => {
-            match *form {
-                Form::Pointer(p) => deeds.push(Deed::Given(slot, p))?,
-                _ => {
-                    if carries(form) {
-                        deeds.push(Deed::Gives(slot))?;
-                    }
+        Origin::Slot(slot) => match *form {
+            Form::Pointer(p) => put(deeds, Deed::Given(slot, p)),
+            _ => {
+                if carries(form) {
+                    put(deeds, Deed::Gives(slot))
+                } else {
+                    Ok(())
                 }
             }
-            Ok(())
-        }
+        },
     }
 }
 
@@ -248,9 +245,6 @@ pub fn put_sees(deeds: &mut Vec<Deed>, origin: &Origin) -> Result<(), NoMemory>
 {
     match *origin {
         Origin::Door(_) => Ok(()),
-        Origin::Slot(slot) => {
-            deeds.push(Deed::Sees(slot))?;
-            Ok(())
-        }
+        Origin::Slot(slot) => put(deeds, Deed::Sees(slot)),
     }
 }

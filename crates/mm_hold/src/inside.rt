@@ -6,7 +6,7 @@ ghost use Rattle.mm_hold.specs.Conducts.{AreAll};
 ghost use Rattle.mm_hold.specs.Deeds.{carrying_in, stored_in, used, used_in};
 ghost use Rattle.mm_hold.specs.declared.deed.Deed.TheVariants.{Loaded, Stored};
 
-use crate::deed::Deed;
+use crate::deed::{Deed, put};
 use crate::going::Held;
 use crate::handing::carries;
 use mm_keep::{Tables, lies_in};
@@ -49,9 +49,10 @@ fn put_loaded_word(
     ensures { OnOk result (deeds.new.items ≡ deeds.old.items ++ used_in Loaded origin.now part word) }
 {
     if lies_in(word, part) {
-        deeds.push(Deed::Loaded(word, *origin))?;
+        put(deeds, Deed::Loaded(word, *origin))
+    } else {
+        Ok(())
     }
-    Ok(())
 }
 
 /// Appends that threads load each of the words that lies in a part.
@@ -79,9 +80,10 @@ fn put_stored_word(
     ensures { OnOk result (deeds.new.items ≡ deeds.old.items ++ used_in Stored origin.now part word) }
 {
     if lies_in(word, part) {
-        deeds.push(Deed::Stored(word, *origin))?;
+        put(deeds, Deed::Stored(word, *origin))
+    } else {
+        Ok(())
     }
-    Ok(())
 }
 
 /// Appends that threads store to each of the words that lies in a part.
