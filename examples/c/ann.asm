@@ -1,4 +1,4 @@
-.segment ann_text 10
+.segment ann_text 11
 start:
   ldi r0, 1
   ldi r1, 0
@@ -29,22 +29,19 @@ ann_main:
   ldi r9, 10
   ldi r10, 32
   ;@ line examples/c/ann.c:9
-  lip r13, P_0
-  ld r13, r13, 0, any, keep
-  jal r14, r13
+  lip r14, 2
+  br ann_to_open_drawer
   mov r7, r0
   ;@ line examples/c/ann.c:10
   ;@ var key 1 r7
-  lip r13, P_1
-  ld r13, r13, 0, any, keep
   mov r0, r7
   ldi r1, 1234
-  jal r14, r13
+  lip r14, 2
+  br ann_to_put_in
   ;@ line examples/c/ann.c:11
-  lip r13, P_2
-  ld r13, r13, 0, any, keep
   mov r0, r7
-  jal r14, r13
+  lip r14, 2
+  br ann_to_look_in
   ;@ line examples/c/say.h:15 in 1
   ;@ var key 1 -
   ;@ var number 2 r0 in 1
@@ -54,9 +51,9 @@ ann_main:
   ldi r13, 0
   lts r1, r0, r13
   mov r7, r2
-  bnz r1, L11
+  bnz r1, L18
   mov r7, r0
-L11:
+L18:
   ;@ line examples/c/say.h:16 in 1
   ;@ var rest 4 r7 in 1
   ldi r13, 0
@@ -100,7 +97,7 @@ L4:
   ;@ var rest 4 r5 in 1
   ltu r0, r7, r9
   bnz r0, L5
-L8:
+L15:
   ;@ var length 3 r6 in 1
   mov r1, r6
   ;@ var length 3 - in 1
@@ -152,9 +149,100 @@ ann_putchar:
   ldi r13, 255
   and r0, r0, r13
   jmp r14
-P_0: .ptr eu door_open_drawer+16
-P_1: .ptr eu door_put_in+16
-P_2: .ptr eu door_look_in+16
+ann_to_open_drawer:
+  ;@ frame back - caller by 0
+  lip r13, L8
+  ld r12, r13, 0, any, keep
+  br L10
+ann_from_open_drawer:
+  lip r13, L8
+  br L9
+ann_to_put_in:
+  ;@ frame back - caller by 0
+  lip r13, L11
+  ld r12, r13, 0, any, keep
+  br L12
+ann_from_put_in:
+  lip r13, L11
+  br L9
+ann_to_look_in:
+  ;@ frame back - caller by 0
+  lip r13, L13
+  ld r12, r13, 0, any, keep
+  br L14
+ann_from_look_in:
+  lip r13, L13
+  br L9
+ann_leave:
+  ;@ frame back 40 caller by 56
+L10:
+  ldi r0, 0
+L14:
+  ldi r1, 0
+L12:
+  ldi r2, 0
+  ldi r3, 0
+  ldi r4, 0
+  ldi r5, 0
+  ldi r6, 0
+  leai r15, r15, -56
+  st r15, r7, 0, any, keep
+  st r15, r8, 8, any, keep
+  st r15, r9, 16, any, keep
+  st r15, r10, 24, any, keep
+  st r15, r11, 32, any, keep
+  st r15, r14, 40, any, keep
+  ld r7, r13, 16, any, keep
+  self r8
+  ldi r9, 3
+  shl r8, r8, r9
+  lea r7, r7, r8
+  ld r8, r7, 0, any, keep
+  st r15, r8, 48, any, keep
+  st r7, r15, 0, any, keep
+  ld r14, r13, 8, any, keep
+  ldi r7, 0
+  ldi r8, 0
+  ldi r9, 0
+  ldi r10, 0
+  ldi r11, 0
+  ldi r13, 0
+  ldi r15, 0
+  jmp r12
+L9:
+  ld r13, r13, 16, any, keep
+  self r12
+  ldi r14, 3
+  shl r12, r12, r14
+  lea r13, r13, r12
+  ld r15, r13, 0, any, keep
+  isptr r12, r15
+  bz r12, L20
+  ld r12, r15, 48, any, keep
+  st r13, r12, 0, any, keep
+  ld r7, r15, 0, any, keep
+  ld r8, r15, 8, any, keep
+  ld r9, r15, 16, any, keep
+  ld r10, r15, 24, any, keep
+  ld r11, r15, 32, any, keep
+  ld r14, r15, 40, any, keep
+  leai r15, r15, 56
+  jmp r14
+L20:
+  halt
+L8:
+  .ptr eu door_open_drawer+16
+  .ptr eu ann_from_open_drawer
+  .ptr rw ann_calls+0
+L11:
+  .ptr eu door_put_in+16
+  .ptr eu ann_from_put_in
+  .ptr rw ann_calls+128
+L13:
+  .ptr eu door_look_in+16
+  .ptr eu ann_from_look_in
+  .ptr rw ann_calls+256
+.segment ann_calls 9
 .segment ann_stack 16
 .thread 0 0 none xu start
 .reg 15 ptr rw ann_stack+65472

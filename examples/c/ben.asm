@@ -1,4 +1,4 @@
-.segment ben_text 11
+.segment ben_text 12
 start:
   ldi r0, 1
   ldi r1, 0
@@ -37,22 +37,19 @@ ben_main:
   ldi r11, 10
   ldi r9, 32
   ;@ line examples/c/ben.c:10
-  lip r13, P_0
-  ld r13, r13, 0, any, keep
-  jal r14, r13
+  lip r14, 2
+  br ben_to_open_drawer
   st r15, r0, 8, any, keep
   ;@ line examples/c/ben.c:11
   ;@ var key 1 s8
-  lip r13, P_1
-  ld r13, r13, 0, any, keep
   ld r0, r15, 8, any, keep
   ldi r1, 77
-  jal r14, r13
+  lip r14, 2
+  br ben_to_put_in
   ;@ line examples/c/ben.c:12
-  lip r13, P_2
-  ld r13, r13, 0, any, keep
   ld r0, r15, 8, any, keep
-  jal r14, r13
+  lip r14, 2
+  br ben_to_look_in
   ;@ line examples/c/say.h:15 in 1
   ;@ var number 2 r0 in 1
   ;@ var length 3 0 in 1
@@ -61,9 +58,9 @@ ben_main:
   ldi r13, 0
   lts r1, r0, r13
   mov r7, r2
-  bnz r1, L23
+  bnz r1, L30
   mov r7, r0
-L23:
+L30:
   ;@ line examples/c/say.h:16 in 1
   ;@ var rest 4 r7 in 1
   ldi r13, 0
@@ -108,7 +105,7 @@ L4:
   ;@ var rest 4 r5 in 1
   ltu r0, r7, r11
   bnz r0, L5
-L16:
+L23:
   ;@ var length 3 r6 in 1
   mov r1, r6
   ;@ var length 3 - in 1
@@ -169,7 +166,7 @@ L8:
 L9:
   ;@ line examples/c/say.h:8 in 2
   ;@ var by 2 s0
-  lip r12, P_3
+  lip r12, P_0
   ld r12, r12, 0, any, keep
   ld r1, r12, 0, any, keep
   mov r0, r9
@@ -179,9 +176,8 @@ L9:
   ld r0, r15, 72, any, keep
   ld r13, r15, 0, any, keep
   add r0, r0, r13
-  lip r13, P_2
-  ld r13, r13, 0, any, keep
-  jal r14, r13
+  lip r14, 2
+  br ben_to_look_in
   ;@ line examples/c/say.h:15 in 3
   ;@ var number 2 r0 in 3
   ;@ var length 3 0 in 3
@@ -190,9 +186,9 @@ L9:
   ldi r13, 0
   lts r1, r0, r13
   mov r7, r2
-  bnz r1, L24
+  bnz r1, L31
   mov r7, r0
-L24:
+L31:
   ;@ line examples/c/say.h:16 in 3
   ;@ var rest 4 r7 in 3
   ldi r13, 0
@@ -236,7 +232,7 @@ L12:
   ;@ var rest 4 r5 in 3
   ltu r0, r7, r11
   bnz r0, L13
-L19:
+L26:
   ;@ var length 3 r6 in 3
   mov r1, r6
   ;@ var length 3 - in 3
@@ -293,10 +289,100 @@ ben_putchar:
   ldi r13, 255
   and r0, r0, r13
   jmp r14
-P_0: .ptr eu door_open_drawer+16
-P_1: .ptr eu door_put_in+16
-P_2: .ptr eu door_look_in+16
-P_3: .ptr rw ben_stdout+0
+ben_to_open_drawer:
+  ;@ frame back - caller by 0
+  lip r13, L16
+  ld r12, r13, 0, any, keep
+  br L18
+ben_from_open_drawer:
+  lip r13, L16
+  br L17
+ben_to_put_in:
+  ;@ frame back - caller by 0
+  lip r13, L19
+  ld r12, r13, 0, any, keep
+  br L20
+ben_from_put_in:
+  lip r13, L19
+  br L17
+ben_to_look_in:
+  ;@ frame back - caller by 0
+  lip r13, L21
+  ld r12, r13, 0, any, keep
+  br L22
+ben_from_look_in:
+  lip r13, L21
+  br L17
+ben_leave:
+  ;@ frame back 40 caller by 56
+L18:
+  ldi r0, 0
+L22:
+  ldi r1, 0
+L20:
+  ldi r2, 0
+  ldi r3, 0
+  ldi r4, 0
+  ldi r5, 0
+  ldi r6, 0
+  leai r15, r15, -56
+  st r15, r7, 0, any, keep
+  st r15, r8, 8, any, keep
+  st r15, r9, 16, any, keep
+  st r15, r10, 24, any, keep
+  st r15, r11, 32, any, keep
+  st r15, r14, 40, any, keep
+  ld r7, r13, 16, any, keep
+  self r8
+  ldi r9, 3
+  shl r8, r8, r9
+  lea r7, r7, r8
+  ld r8, r7, 0, any, keep
+  st r15, r8, 48, any, keep
+  st r7, r15, 0, any, keep
+  ld r14, r13, 8, any, keep
+  ldi r7, 0
+  ldi r8, 0
+  ldi r9, 0
+  ldi r10, 0
+  ldi r11, 0
+  ldi r13, 0
+  ldi r15, 0
+  jmp r12
+L17:
+  ld r13, r13, 16, any, keep
+  self r12
+  ldi r14, 3
+  shl r12, r12, r14
+  lea r13, r13, r12
+  ld r15, r13, 0, any, keep
+  isptr r12, r15
+  bz r12, L34
+  ld r12, r15, 48, any, keep
+  st r13, r12, 0, any, keep
+  ld r7, r15, 0, any, keep
+  ld r8, r15, 8, any, keep
+  ld r9, r15, 16, any, keep
+  ld r10, r15, 24, any, keep
+  ld r11, r15, 32, any, keep
+  ld r14, r15, 40, any, keep
+  leai r15, r15, 56
+  jmp r14
+L34:
+  halt
+L16:
+  .ptr eu door_open_drawer+16
+  .ptr eu ben_from_open_drawer
+  .ptr rw ben_calls+0
+L19:
+  .ptr eu door_put_in+16
+  .ptr eu ben_from_put_in
+  .ptr rw ben_calls+128
+L21:
+  .ptr eu door_look_in+16
+  .ptr eu ben_from_look_in
+  .ptr rw ben_calls+256
+P_0: .ptr rw ben_stdout+0
 .segment ben_stdout 3
   ;@ global stdout 8 at 0
   .ptr rw ben_files+8
@@ -304,6 +390,7 @@ P_3: .ptr rw ben_stdout+0
   ;@ global files 12 at 4
   .fill 1
   .int 0x200000001
+.segment ben_calls 9
 .segment ben_stack 16
 .thread 1 1 none xu start
 .reg 15 ptr rw ben_stack+65472

@@ -319,31 +319,27 @@ P_1: .ptr rw bens_store_drawers+0
   .ptr rw bens_store_turn
   .ptr xu bens_store_mm_door_open_drawer_
   isptr r12, r14
-  bz r12, 33
+  bz r12, 30
   ldi r12, 60
   shr r12, r14, r12
   addi r12, r12, -3
   bz r12, 3
   addi r12, r12, -2
-  bnz r12, 27
+  bnz r12, 24
   lip r12, -10
   ld r6, r12, 0, any, keep
   ld r13, r6, 0, full, empty
-  st r13, r15, 0, any, keep
-  st r13, r14, 8, any, keep
-  st r13, r6, 16, any, keep
+  st r13, r14, 0, any, keep
+  st r13, r6, 8, any, keep
   mov r15, r13
   ld r12, r12, 8, any, keep
   jal r14, r12
-  mov r13, r15
-  ld r6, r13, 16, any, keep
-  ld r14, r13, 8, any, keep
-  ld r15, r13, 0, any, keep
+  ld r6, r15, 8, any, keep
+  ld r14, r15, 0, any, keep
   ldi r12, 0
-  st r13, r12, 0, any, keep
-  st r13, r12, 8, any, keep
-  st r13, r12, 16, any, keep
-  st r6, r13, 0, empty, full
+  st r15, r12, 0, any, keep
+  st r15, r12, 8, any, keep
+  st r6, r15, 0, empty, full
   ldi r1, 0
   ldi r2, 0
   ldi r3, 0
@@ -351,37 +347,34 @@ P_1: .ptr rw bens_store_drawers+0
   ldi r5, 0
   ldi r6, 0
   ldi r13, 0
+  ldi r15, 0
   jmp r14
   halt
 .segment door_put_in_ben 9
   .ptr rw bens_store_turn
   .ptr xu bens_store_mm_door_put_in_ben
   isptr r12, r14
-  bz r12, 33
+  bz r12, 30
   ldi r12, 60
   shr r12, r14, r12
   addi r12, r12, -3
   bz r12, 3
   addi r12, r12, -2
-  bnz r12, 27
+  bnz r12, 24
   lip r12, -10
   ld r6, r12, 0, any, keep
   ld r13, r6, 0, full, empty
-  st r13, r15, 0, any, keep
-  st r13, r14, 8, any, keep
-  st r13, r6, 16, any, keep
+  st r13, r14, 0, any, keep
+  st r13, r6, 8, any, keep
   mov r15, r13
   ld r12, r12, 8, any, keep
   jal r14, r12
-  mov r13, r15
-  ld r6, r13, 16, any, keep
-  ld r14, r13, 8, any, keep
-  ld r15, r13, 0, any, keep
+  ld r6, r15, 8, any, keep
+  ld r14, r15, 0, any, keep
   ldi r12, 0
-  st r13, r12, 0, any, keep
-  st r13, r12, 8, any, keep
-  st r13, r12, 16, any, keep
-  st r6, r13, 0, empty, full
+  st r15, r12, 0, any, keep
+  st r15, r12, 8, any, keep
+  st r6, r15, 0, empty, full
   ldi r1, 0
   ldi r2, 0
   ldi r3, 0
@@ -389,37 +382,34 @@ P_1: .ptr rw bens_store_drawers+0
   ldi r5, 0
   ldi r6, 0
   ldi r13, 0
+  ldi r15, 0
   jmp r14
   halt
 .segment door_look_in_ben 9
   .ptr rw bens_store_turn
   .ptr xu bens_store_mm_door_look_in_ben
   isptr r12, r14
-  bz r12, 33
+  bz r12, 30
   ldi r12, 60
   shr r12, r14, r12
   addi r12, r12, -3
   bz r12, 3
   addi r12, r12, -2
-  bnz r12, 27
+  bnz r12, 24
   lip r12, -10
   ld r6, r12, 0, any, keep
   ld r13, r6, 0, full, empty
-  st r13, r15, 0, any, keep
-  st r13, r14, 8, any, keep
-  st r13, r6, 16, any, keep
+  st r13, r14, 0, any, keep
+  st r13, r6, 8, any, keep
   mov r15, r13
   ld r12, r12, 8, any, keep
   jal r14, r12
-  mov r13, r15
-  ld r6, r13, 16, any, keep
-  ld r14, r13, 8, any, keep
-  ld r15, r13, 0, any, keep
+  ld r6, r15, 8, any, keep
+  ld r14, r15, 0, any, keep
   ldi r12, 0
-  st r13, r12, 0, any, keep
-  st r13, r12, 8, any, keep
-  st r13, r12, 16, any, keep
-  st r6, r13, 0, empty, full
+  st r15, r12, 0, any, keep
+  st r15, r12, 8, any, keep
+  st r6, r15, 0, empty, full
   ldi r1, 0
   ldi r2, 0
   ldi r3, 0
@@ -427,6 +417,7 @@ P_1: .ptr rw bens_store_drawers+0
   ldi r5, 0
   ldi r6, 0
   ldi r13, 0
+  ldi r15, 0
   jmp r14
   halt
 .segment bens_store_door_stack 16

@@ -1,4 +1,4 @@
-.segment guest_text 10
+.segment guest_text 11
 start:
   ldi r0, 1
   ldi r1, 0
@@ -49,9 +49,8 @@ L2:
 L3:
   ;@ line examples/c/guest.c:10
   ;@ var i 1 s0
-  lip r13, P_0
-  ld r13, r13, 0, any, keep
-  jal r14, r13
+  lip r14, 2
+  br guest_to_count
   ;@ line examples/c/say.h:15 in 1
   ;@ var number 2 r0 in 1
   ;@ var length 1 0 in 1
@@ -60,9 +59,9 @@ L3:
   ldi r13, 0
   lts r1, r0, r13
   mov r7, r2
-  bnz r1, L14
+  bnz r1, L17
   mov r7, r0
-L14:
+L17:
   ;@ line examples/c/say.h:16 in 1
   ;@ var rest 3 r7 in 1
   ldi r13, 0
@@ -106,7 +105,7 @@ L6:
   ;@ var rest 3 r5 in 1
   ltu r0, r7, r11
   bnz r0, L7
-L10:
+L13:
   ;@ var length 1 r6 in 1
   mov r1, r6
   ;@ var length 1 - in 1
@@ -143,7 +142,7 @@ L8:
 L9:
   ;@ line examples/c/say.h:8 in 2
   ;@ var length 1 - in 1
-  lip r12, P_1
+  lip r12, P_0
   ld r12, r12, 0, any, keep
   ld r1, r12, 0, any, keep
   mov r0, r9
@@ -170,8 +169,74 @@ guest_putchar:
   ldi r13, 255
   and r0, r0, r13
   jmp r14
-P_0: .ptr eu door_count+16
-P_1: .ptr rw guest_stdout+0
+guest_to_count:
+  ;@ frame back - caller by 0
+  lip r13, L10
+  ld r12, r13, 0, any, keep
+  br L12
+guest_from_count:
+  lip r13, L10
+  br L11
+guest_leave:
+  ;@ frame back 40 caller by 56
+L12:
+  ldi r0, 0
+  ldi r1, 0
+  ldi r2, 0
+  ldi r3, 0
+  ldi r4, 0
+  ldi r5, 0
+  ldi r6, 0
+  leai r15, r15, -56
+  st r15, r7, 0, any, keep
+  st r15, r8, 8, any, keep
+  st r15, r9, 16, any, keep
+  st r15, r10, 24, any, keep
+  st r15, r11, 32, any, keep
+  st r15, r14, 40, any, keep
+  ld r7, r13, 16, any, keep
+  self r8
+  ldi r9, 3
+  shl r8, r8, r9
+  lea r7, r7, r8
+  ld r8, r7, 0, any, keep
+  st r15, r8, 48, any, keep
+  st r7, r15, 0, any, keep
+  ld r14, r13, 8, any, keep
+  ldi r7, 0
+  ldi r8, 0
+  ldi r9, 0
+  ldi r10, 0
+  ldi r11, 0
+  ldi r13, 0
+  ldi r15, 0
+  jmp r12
+L11:
+  ld r13, r13, 16, any, keep
+  self r12
+  ldi r14, 3
+  shl r12, r12, r14
+  lea r13, r13, r12
+  ld r15, r13, 0, any, keep
+  isptr r12, r15
+  bz r12, L20
+  ld r12, r15, 48, any, keep
+  st r13, r12, 0, any, keep
+  ld r7, r15, 0, any, keep
+  ld r8, r15, 8, any, keep
+  ld r9, r15, 16, any, keep
+  ld r10, r15, 24, any, keep
+  ld r11, r15, 32, any, keep
+  ld r14, r15, 40, any, keep
+  leai r15, r15, 56
+  jmp r14
+L20:
+  halt
+L10:
+  .ptr eu door_count+16
+  .ptr eu guest_from_count
+  .ptr rw guest_calls+0
+P_0: .ptr rw guest_stdout+0
 .segment guest_stdout 3
   ;@ global stdout 8 at 0
   .ptr rw guest_files+8
@@ -179,6 +244,7 @@ P_1: .ptr rw guest_stdout+0
   ;@ global files 12 at 4
   .fill 1
   .int 0x200000001
+.segment guest_calls 7
 .segment guest_stack 16
 .thread 0 0 none xu start
 .reg 15 ptr rw guest_stack+65472

@@ -43,24 +43,21 @@ tenant_main:
   ldi r11, 10
   ldi r9, 32
   ;@ line examples/c/tenant.c:9
-  lip r13, P_0
-  ld r13, r13, 0, any, keep
-  jal r14, r13
+  lip r14, 2
+  br tenant_to_get
   st r15, r0, 16, any, keep
   ;@ line examples/c/tenant.c:10
   ;@ var mine 1 s16
-  lip r13, P_1
-  ld r13, r13, 0, any, keep
   ld r0, r15, 16, any, keep
   ldi r1, 1
   ldi r2, 1234
-  jal r14, r13
+  lip r14, 2
+  br tenant_to_put
   ;@ line examples/c/tenant.c:11
-  lip r13, P_2
-  ld r13, r13, 0, any, keep
   ld r0, r15, 16, any, keep
   ldi r1, 1
-  jal r14, r13
+  lip r14, 2
+  br tenant_to_look
   ;@ line examples/c/say.h:15 in 1
   ;@ var number 1 r0 in 1
   ;@ var length 2 0 in 1
@@ -69,9 +66,9 @@ tenant_main:
   ldi r13, 0
   lts r1, r0, r13
   mov r7, r2
-  bnz r1, L29
+  bnz r1, L38
   mov r7, r0
-L29:
+L38:
   ;@ line examples/c/say.h:16 in 1
   ;@ var rest 3 r7 in 1
   ldi r13, 0
@@ -115,7 +112,7 @@ L4:
   ;@ var rest 3 r5 in 1
   ltu r0, r7, r11
   bnz r0, L5
-L20:
+L29:
   ;@ var length 2 r6 in 1
   mov r1, r6
   ;@ var length 2 - in 1
@@ -152,17 +149,16 @@ L6:
 L7:
   ;@ line examples/c/say.h:8 in 2
   ;@ var length 2 - in 1
-  lip r12, P_3
+  lip r12, P_0
   ld r12, r12, 0, any, keep
   ld r1, r12, 0, any, keep
   mov r0, r9
   lip r14, 2
   br tenant_fputc
   ;@ line examples/c/tenant.c:13
-  lip r13, P_4
-  ld r13, r13, 0, any, keep
   ld r0, r15, 16, any, keep
-  jal r14, r13
+  lip r14, 2
+  br tenant_to_give_back
   ;@ line examples/c/say.h:15 in 3
   ;@ var number 1 r0 in 3
   ;@ var length 2 0 in 3
@@ -171,9 +167,9 @@ L7:
   ldi r13, 0
   lts r1, r0, r13
   mov r7, r2
-  bnz r1, L30
+  bnz r1, L39
   mov r7, r0
-L30:
+L39:
   ;@ line examples/c/say.h:16 in 3
   ;@ var rest 3 r7 in 3
   ldi r13, 0
@@ -218,7 +214,7 @@ L10:
   ;@ var rest 3 r5 in 3
   ltu r0, r7, r11
   bnz r0, L11
-L23:
+L32:
   ;@ var length 2 r6 in 3
   mov r1, r6
   ;@ var length 2 - in 3
@@ -256,18 +252,17 @@ L12:
 L13:
   ;@ line examples/c/say.h:8 in 4
   ;@ var length 2 - in 3
-  lip r12, P_3
+  lip r12, P_0
   ld r12, r12, 0, any, keep
   ld r1, r12, 0, any, keep
   mov r0, r9
   lip r14, 2
   br tenant_fputc
   ;@ line examples/c/tenant.c:15
-  lip r13, P_2
-  ld r13, r13, 0, any, keep
   ld r0, r15, 16, any, keep
   ldi r1, 1
-  jal r14, r13
+  lip r14, 2
+  br tenant_to_look
   ;@ line examples/c/say.h:15 in 5
   ;@ var mine 1 -
   ;@ var number 1 r0 in 5
@@ -277,9 +272,9 @@ L13:
   ldi r13, 0
   lts r1, r0, r13
   mov r7, r2
-  bnz r1, L31
+  bnz r1, L40
   mov r7, r0
-L31:
+L40:
   ;@ line examples/c/say.h:16 in 5
   ;@ var rest 3 r7 in 5
   ldi r13, 0
@@ -324,7 +319,7 @@ L16:
   ;@ var rest 3 r5 in 5
   ltu r0, r7, r11
   bnz r0, L17
-L26:
+L35:
   ;@ var length 2 r6 in 5
   mov r1, r6
   ;@ var length 2 - in 5
@@ -383,11 +378,113 @@ tenant_putchar:
   ldi r13, 255
   and r0, r0, r13
   jmp r14
-P_0: .ptr eu door_get+16
-P_1: .ptr eu door_put+16
-P_2: .ptr eu door_look+16
-P_3: .ptr rw tenant_stdout+0
-P_4: .ptr eu door_give_back+16
+tenant_to_get:
+  ;@ frame back - caller by 0
+  lip r13, L20
+  ld r12, r13, 0, any, keep
+  br L22
+tenant_from_get:
+  lip r13, L20
+  br L21
+tenant_to_put:
+  ;@ frame back - caller by 0
+  lip r13, L23
+  ld r12, r13, 0, any, keep
+  br L24
+tenant_from_put:
+  lip r13, L23
+  br L21
+tenant_to_look:
+  ;@ frame back - caller by 0
+  lip r13, L25
+  ld r12, r13, 0, any, keep
+  br L26
+tenant_from_look:
+  lip r13, L25
+  br L21
+tenant_to_give_back:
+  ;@ frame back - caller by 0
+  lip r13, L27
+  ld r12, r13, 0, any, keep
+  br L28
+tenant_from_give_back:
+  lip r13, L27
+  br L21
+tenant_leave:
+  ;@ frame back 40 caller by 56
+L22:
+  ldi r0, 0
+L28:
+  ldi r1, 0
+L26:
+  ldi r2, 0
+L24:
+  ldi r3, 0
+  ldi r4, 0
+  ldi r5, 0
+  ldi r6, 0
+  leai r15, r15, -56
+  st r15, r7, 0, any, keep
+  st r15, r8, 8, any, keep
+  st r15, r9, 16, any, keep
+  st r15, r10, 24, any, keep
+  st r15, r11, 32, any, keep
+  st r15, r14, 40, any, keep
+  ld r7, r13, 16, any, keep
+  self r8
+  ldi r9, 3
+  shl r8, r8, r9
+  lea r7, r7, r8
+  ld r8, r7, 0, any, keep
+  st r15, r8, 48, any, keep
+  st r7, r15, 0, any, keep
+  ld r14, r13, 8, any, keep
+  ldi r7, 0
+  ldi r8, 0
+  ldi r9, 0
+  ldi r10, 0
+  ldi r11, 0
+  ldi r13, 0
+  ldi r15, 0
+  jmp r12
+L21:
+  ld r13, r13, 16, any, keep
+  self r12
+  ldi r14, 3
+  shl r12, r12, r14
+  lea r13, r13, r12
+  ld r15, r13, 0, any, keep
+  isptr r12, r15
+  bz r12, L43
+  ld r12, r15, 48, any, keep
+  st r13, r12, 0, any, keep
+  ld r7, r15, 0, any, keep
+  ld r8, r15, 8, any, keep
+  ld r9, r15, 16, any, keep
+  ld r10, r15, 24, any, keep
+  ld r11, r15, 32, any, keep
+  ld r14, r15, 40, any, keep
+  leai r15, r15, 56
+  jmp r14
+L43:
+  halt
+L20:
+  .ptr eu door_get+16
+  .ptr eu tenant_from_get
+  .ptr rw tenant_calls+0
+L23:
+  .ptr eu door_put+16
+  .ptr eu tenant_from_put
+  .ptr rw tenant_calls+128
+L25:
+  .ptr eu door_look+16
+  .ptr eu tenant_from_look
+  .ptr rw tenant_calls+256
+L27:
+  .ptr eu door_give_back+16
+  .ptr eu tenant_from_give_back
+  .ptr rw tenant_calls+384
+P_0: .ptr rw tenant_stdout+0
 .segment tenant_stdout 3
   ;@ global stdout 8 at 0
   .ptr rw tenant_files+8
@@ -395,6 +492,7 @@ P_4: .ptr eu door_give_back+16
   ;@ global files 12 at 4
   .fill 1
   .int 0x200000001
+.segment tenant_calls 9
 .segment tenant_stack 16
 .thread 0 0 none xu start
 .reg 15 ptr rw tenant_stack+65472

@@ -1,4 +1,4 @@
-.segment thief_text 10
+.segment thief_text 11
 start:
   ldi r0, 1
   ldi r1, 0
@@ -31,18 +31,17 @@ thief_main:
   ldi r9, 10
   ldi r10, 32
   ;@ line examples/c/thief.c:9
-  lip r13, P_0
-  ld r13, r13, 0, any, keep
-  jal r14, r13
+  lip r14, 2
+  br thief_to_count
   ;@ line examples/c/say.h:15 in 1
   ;@ var number 1 r0 in 1
   ;@ var length 2 0 in 1
   sub r2, r8, r0
   lts r1, r0, r8
   mov r7, r2
-  bnz r1, L11
+  bnz r1, L14
   mov r7, r0
-L11:
+L14:
   ;@ line examples/c/say.h:16 in 1
   ;@ var rest 3 r7 in 1
   lts r0, r0, r8
@@ -85,7 +84,7 @@ L4:
   ;@ var rest 3 r5 in 1
   ltu r0, r7, r9
   bnz r0, L5
-L8:
+L11:
   ;@ var length 2 r6 in 1
   mov r1, r6
   ;@ var length 2 - in 1
@@ -122,14 +121,14 @@ L6:
 L7:
   ;@ line examples/c/say.h:8 in 2
   ;@ var length 2 - in 1
-  lip r12, P_1
+  lip r12, P_0
   ld r12, r12, 0, any, keep
   ld r1, r12, 0, any, keep
   mov r0, r10
   lip r14, 2
   br thief_fputc
   ;@ line examples/c/thief.c:12
-  lip r12, P_0
+  lip r12, P_1
   ld r12, r12, 0, any, keep
   ld r0, r12, 0, any, keep
   shl r0, r0, r10
@@ -154,8 +153,75 @@ thief_putchar:
   ldi r13, 255
   and r0, r0, r13
   jmp r14
-P_0: .ptr eu door_count+16
-P_1: .ptr rw thief_stdout+0
+thief_to_count:
+  ;@ frame back - caller by 0
+  lip r13, L8
+  ld r12, r13, 0, any, keep
+  br L10
+thief_from_count:
+  lip r13, L8
+  br L9
+thief_leave:
+  ;@ frame back 40 caller by 56
+L10:
+  ldi r0, 0
+  ldi r1, 0
+  ldi r2, 0
+  ldi r3, 0
+  ldi r4, 0
+  ldi r5, 0
+  ldi r6, 0
+  leai r15, r15, -56
+  st r15, r7, 0, any, keep
+  st r15, r8, 8, any, keep
+  st r15, r9, 16, any, keep
+  st r15, r10, 24, any, keep
+  st r15, r11, 32, any, keep
+  st r15, r14, 40, any, keep
+  ld r7, r13, 16, any, keep
+  self r8
+  ldi r9, 3
+  shl r8, r8, r9
+  lea r7, r7, r8
+  ld r8, r7, 0, any, keep
+  st r15, r8, 48, any, keep
+  st r7, r15, 0, any, keep
+  ld r14, r13, 8, any, keep
+  ldi r7, 0
+  ldi r8, 0
+  ldi r9, 0
+  ldi r10, 0
+  ldi r11, 0
+  ldi r13, 0
+  ldi r15, 0
+  jmp r12
+L9:
+  ld r13, r13, 16, any, keep
+  self r12
+  ldi r14, 3
+  shl r12, r12, r14
+  lea r13, r13, r12
+  ld r15, r13, 0, any, keep
+  isptr r12, r15
+  bz r12, L17
+  ld r12, r15, 48, any, keep
+  st r13, r12, 0, any, keep
+  ld r7, r15, 0, any, keep
+  ld r8, r15, 8, any, keep
+  ld r9, r15, 16, any, keep
+  ld r10, r15, 24, any, keep
+  ld r11, r15, 32, any, keep
+  ld r14, r15, 40, any, keep
+  leai r15, r15, 56
+  jmp r14
+L17:
+  halt
+L8:
+  .ptr eu door_count+16
+  .ptr eu thief_from_count
+  .ptr rw thief_calls+0
+P_0: .ptr rw thief_stdout+0
+P_1: .ptr eu door_count+16
 .segment thief_stdout 3
   ;@ global stdout 8 at 0
   .ptr rw thief_files+8
@@ -163,6 +229,7 @@ P_1: .ptr rw thief_stdout+0
   ;@ global files 12 at 4
   .fill 1
   .int 0x200000001
+.segment thief_calls 7
 .segment thief_stack 16
 .thread 1 1 none xu start
 .reg 15 ptr rw thief_stack+65472

@@ -183,9 +183,12 @@ class Accesses(Lowering):
                       temporary=(self.code.new(), self.code.new()))
             return
         word, shift = self.word_of(pointer)
-        old = self.op("ld", word)
-        change = self.op("and", self.op("xor", self.op("shr", old, shift), value), self.constant((1 << 8 * size) - 1))
-        self.emit("st", None, word, self.op("xor", old, self.op("shl", change, shift)))
+        self.emit("st", None, word, self.put_at(self.op("ld", word), shift, value, size))
+
+    def put_at(self, word: int, shift: int, value: int, size: int) -> int:
+        """A word with some of its bytes replaced, which stand so many bits up in it."""
+        change = self.op("and", self.op("xor", self.op("shr", word, shift), value), self.constant((1 << 8 * size) - 1))
+        return self.op("xor", word, self.op("shl", change, shift))
 
     def put(self, word: int, value: int, at: int, size: int) -> int:
         """A word with some of its bytes replaced."""

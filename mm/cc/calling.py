@@ -133,7 +133,7 @@ class Calling(Emission):
         self.moves([(number, self.source(register)) for number, register in enumerate(call.arguments)])
         if call.variadic:
             self.put("leai", f"r{VARIADIC}", f"r{STACK}", 8 * len(call.stacked))
-        if op.a is not None:
+        if op.a is not None and not call.label:
             self.reg("jal", LINK, SECOND)
         else:
             self.put("lip", f"r{LINK}", 2)

@@ -58,12 +58,20 @@ class Calls(Arithmetic):
         call = Call(arguments=registers[:ARGUMENTS], stacked=registers[ARGUMENTS:], variadic=variadic, words=words,
                     twice=isinstance(callee, Global) and callee.name in ("setjmp", "_setjmp"))
         through = None
-        if isinstance(callee, Global) and self.names.is_function(callee.name):
+        door = self.names.door(callee.name, len(call.arguments)) if isinstance(callee, Global) else None
+        if door is not None:
+            if call.stacked or variadic:
+                raise Untranslated("a call of a door with more than six arguments, or with variable ones,")
+            call.label = door
+        elif isinstance(callee, Global) and self.names.is_function(callee.name):
             call.label = self.names.label(callee.name)
         else:
+            call.label = self.names.through_pointer(len(call.arguments), variadic)
             through = self.whole(self.pointer(callee))
         self.emit("call", None, through, extra=call)
+        self.from_others = door is not None or through is not None and bool(call.label)
         self.result(made, call)
+        self.from_others = False
 
     def argument(self, argument: Argument) -> list[int]:
         """The registers of an argument; one that is handed over by value is copied into an object of this frame."""
@@ -160,8 +168,12 @@ class Calls(Arithmetic):
         """Makes the forms of numbers that have come."""
         waiting, self.later = self.later, []
         for name, type_, register, known in waiting:
+            if self.from_others:
+                register = self.converted(register, bits_of(type_), known)
             self.define(name, type_, register, known)
 
+    # Whether what comes in registers is from another program, which may have extended a narrow number in any way.
+    from_others = False
     later: list[tuple[str, Type, int, str]] = []
 
     def runtime(self, name: str, arguments: list[int], result: bool = False) -> int:

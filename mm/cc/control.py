@@ -8,6 +8,7 @@ from mm.cc.code import Call, Code, CodeBlock
 from mm.cc.ends import Ends
 from mm.cc.forms import RAW, SIGNED, ZEROED, bits_of
 from mm.cc.ir import Block, FloatType, Instruction, IntType, Local, PointerType, Type, Value, VectorType
+from mm.cc.modulenames import DOOR
 from mm.cc.pointers import Pointer, is_twice, read_unset
 from mm.cc.reading import FLOATING, FLOAT_CASTS
 from mm.cc.variables import event_of
@@ -161,7 +162,9 @@ class Translator(Ends):
         if self.function.variadic:
             self.variadic_words = self.code.new()
             made.d = self.variadic_words
+        self.from_others = self.function.name.startswith(DOOR)
         self.settle()
+        self.from_others = False
 
     # Blocks
 

@@ -37,21 +37,21 @@ def stub(function: Function, label: str, turn: str) -> list[str]:
 
     The way back must be a pointer that runs or enters; if not, the thread halts, which is no fault, so that no handler
     gets to see where it was. Then the stub waits until the program's stack is there, which one caller at a time has;
-    leaves the caller's stack and way back on it; calls the function; takes all away that it left; puts the stack back;
-    and clears the registers but for the result."""
+    leaves the way back on it; calls the function; takes all away that it left; puts the stack back; and clears the
+    registers but for the result. It keeps nothing else of the caller, who has to know by itself where its stack is."""
     name = public_name(function.name)
     void = isinstance(function.result, VoidType)
     cleared = [register for register in range(0 if void else 1, ARGUMENTS + 1)]
     tail = [
-        "  mov r13, r15", "  ld r6, r13, 16, any, keep", "  ld r14, r13, 8, any, keep", "  ld r15, r13, 0, any, keep",
-        "  ldi r12, 0", "  st r13, r12, 0, any, keep", "  st r13, r12, 8, any, keep", "  st r13, r12, 16, any, keep",
-        "  st r6, r13, 0, empty, full",
+        "  ld r6, r15, 8, any, keep", "  ld r14, r15, 0, any, keep",
+        "  ldi r12, 0", "  st r15, r12, 0, any, keep", "  st r15, r12, 8, any, keep",
+        "  st r6, r15, 0, empty, full",
         *[f"  ldi r{register}, 0" for register in cleared],
-        "  ldi r13, 0", "  jmp r14",
+        "  ldi r13, 0", "  ldi r15, 0", "  jmp r14",
     ]
     head = [
         "  lip r12, -10", "  ld r6, r12, 0, any, keep", "  ld r13, r6, 0, full, empty",
-        "  st r13, r15, 0, any, keep", "  st r13, r14, 8, any, keep", "  st r13, r6, 16, any, keep", "  mov r15, r13",
+        "  st r13, r14, 0, any, keep", "  st r13, r6, 8, any, keep", "  mov r15, r13",
         "  ld r12, r12, 8, any, keep", "  jal r14, r12",
     ]
     test = [

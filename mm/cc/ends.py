@@ -3,18 +3,18 @@
 from __future__ import annotations
 
 
+from mm.cc.atomic import Atomic
 from mm.cc.code import CodeBlock, Op
 from mm.cc.forms import RAW, SIGNED, ZEROED, bits_of
 from mm.cc.ir import Block, Instruction, IntType, Local, Number, PointerType, Undefined, Value, Zero
 from mm.cc.lowering import signed
-from mm.cc.objects import Objects
 from mm.cc.pointers import Pointer
 from mm.cc.untranslated import Untranslated
 
 LEAST_TABLE = 5
 
 
-class Ends(Objects):
+class Ends(Atomic):
     """Branches, and values that come from several blocks."""
 
     def branch(self, made: Instruction) -> None:

@@ -54,6 +54,18 @@ class Names:
         """A new label."""
         raise NotImplementedError
 
+    def is_door(self, name: str) -> bool:
+        """Whether it is a door, of this program or of another one. A pointer to it is an enter pointer."""
+        raise NotImplementedError
+
+    def door(self, name: str, arguments: int) -> Optional[str]:
+        """The label by which a door of another program is entered with so many arguments; none of what is no such door."""
+        raise NotImplementedError
+
+    def through_pointer(self, arguments: int, variadic: bool) -> str:
+        """The label by which a call with so many arguments goes through a pointer; an empty one if it simply jumps there."""
+        raise NotImplementedError
+
     def is_function(self, name: str) -> bool:
         raise NotImplementedError
 
@@ -233,7 +245,7 @@ class Lowering:
         raise Untranslated("a label of another function")
 
     def global_pointer(self, name: str) -> Pointer:
-        if self.names.is_function(name):
+        if self.names.is_function(name) and not self.names.is_door(name):
             return Pointer(self.fix(Fixed("text", 0, self.names.label(name))))
         segment, known = self.names.segment(name)
         base = self.fix(Fixed("global", 0, segment))

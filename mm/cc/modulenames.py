@@ -84,6 +84,16 @@ class ModuleNames(Names):
         module, there = self.program.found(self.module, name)
         return (module or self.module).functions.get(there)
 
+    def is_door(self, name: str) -> bool:
+        return name.startswith(DOOR)
+
+    def door(self, name: str, arguments: int) -> Optional[str]:
+        is_foreign = self.is_door(name) and self.program.found(self.module, name)[0] is None
+        return self.program.entering.door(name[len(DOOR):], arguments) if is_foreign else None
+
+    def through_pointer(self, arguments: int, variadic: bool) -> str:
+        return "" if self.program.is_alone else self.program.entering.pointer(arguments, variadic)
+
     def segment(self, name: str) -> tuple[str, Known]:
         found = self.program.want_global(self.module, name)
         return found.name, found.known

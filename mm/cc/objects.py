@@ -1,11 +1,11 @@
-"""Values in parts, words that several threads share, and objects of the frame."""
+"""Values in parts, and objects of the frame."""
 
 from __future__ import annotations
 
 from typing import Optional
 
 from mm.cc.code import Fixed, LocalObject, log_of, place_in
-from mm.cc.forms import RAW, SIGNED, ZEROED, bits_of
+from mm.cc.forms import RAW, ZEROED
 from mm.cc.ir import (
     Expression,
     FloatType,
@@ -25,8 +25,6 @@ from mm.cc.untranslated import Untranslated
 from mm.cc.vectors import Vectors
 
 WORD = 8
-# Comparisons that say whether the old number is less, and whether the greater one is wanted.
-EXTREMES = {"max": ("lts", True), "min": ("lts", False), "umax": ("ltu", True), "umin": ("ltu", False)}
 
 
 class Objects(Vectors):
@@ -91,64 +89,6 @@ class Objects(Vectors):
         else:
             raise Untranslated("a part of a part")
         return parts
-
-    # Words that several threads share
-
-    def read_and_write(self, made: Instruction) -> None:
-        """The old value is loaded and the new one stored, in two turns."""
-        place, value = made.operands
-        align = self.layouts.align(made.type)
-        name = made.name or f"?{self.code.registers}"
-        pointer = self.pointer(place)
-        if isinstance(made.type, PointerType):
-            if made.condition != "xchg":
-                raise Untranslated(f"atomicrmw {made.condition}")
-            self.load_value(pointer, made.type, align, name)
-            self.store_value(pointer, value, align)
-            return
-        if not isinstance(made.type, IntType) or made.type.bits > 64:
-            raise Untranslated(self.left_out(made.type))
-        register, known = self.load_integer(pointer, made.type.bits, align, SIGNED)
-        self.define(name, made.type, register, known)
-        self.define(name + "?new", made.type, self.changed(made.condition, Local(made.type, name), value))
-        self.store_integer(pointer, Local(made.type, name + "?new"), made.type.bits, align)
-
-    def changed(self, how: str, old: Value, value: Value) -> int:
-        """What such an operation stores."""
-        if how in EXTREMES:
-            op, greater = EXTREMES[how]
-            # Extended by their signs, unsigned numbers keep their order.
-            a, b = self.number(old, SIGNED), self.number(value, SIGNED)
-            return self.picked(self.op(op, a, b), *((b, a) if greater else (a, b)))
-        a, b = self.number(old), self.number(value)
-        if how == "xchg":
-            return b
-        if how == "nand":
-            return self.op("xor", self.op("and", a, b), self.constant(-1))
-        if how in ("add", "sub") and bits_of(old.type) == 64:
-            # The number may be a pointer, which stays one while it is in its segment.
-            return self.whole(Pointer(a, b if how == "add" else self.op("sub", self.constant(0), b)))
-        if how in ("add", "sub", "and", "or", "xor"):
-            return self.op(how, a, b)
-        raise Untranslated(f"atomicrmw {how}")
-
-    def compare_and_change(self, made: Instruction) -> None:
-        assert made.name is not None
-        place, expected, new = made.operands
-        type_ = expected.type
-        align = self.layouts.align(type_)
-        pointer, name = self.pointer(place), made.name
-        self.load_value(pointer, type_, align, name + "?0")
-        old = Local(type_, name + "?0")
-        if isinstance(type_, PointerType):
-            same = self.op("eq", self.whole(self.pointer(old)), self.whole(self.pointer(expected)))
-            self.store_word(pointer, self.picked(same, self.whole(self.pointer(new)), self.whole(self.pointer(old))))
-        else:
-            same = self.op("eq", self.number(old, SIGNED), self.number(expected, SIGNED))
-            self.define(name + "?new", type_, self.picked(same, self.number(new, SIGNED), self.number(old, SIGNED)))
-            self.store_integer(pointer, Local(type_, name + "?new"), bits_of(type_), align)
-        self.define(name + "?1", IntType(1), same, ZEROED)
-        self.groups[name] = [old, Local(IntType(1), name + "?1")]
 
     # Objects of the frame
 

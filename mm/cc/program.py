@@ -12,6 +12,7 @@ from mm.cc.control import Translator
 from mm.cc.ctypes import Types
 from mm.cc.data import Place, Words
 from mm.cc.declared import Declared, contradiction, elsewhere, warning
+from mm.cc.entering import DOOR_ENTRY, Entering
 from mm.cc.failures import INSTEAD, INSTEAD_OF, ONCE, ONE_MAIN, Failure, Failures, Missing, Repeated, instead_of
 from mm.cc.ir import POINTER, WORD, ArrayType, BlockAddress, Function, Global, GlobalObject, IntType, Module, Number, Parts
 from mm.cc.lines import FunctionNotes
@@ -28,8 +29,8 @@ HEAP = "__mm_heap"
 ROOTS, ROOTS_LOG = "__mm_roots", 11
 MOST_LOG = 20
 RESERVED = re.compile(r"r\d+|L\d+|P_.*|none|int|ptr|start|stack|text|heap")
-# A door's segment: where it is entered, and its length.
-DOOR_ENTRY, DOOR_LOG = 16, 9
+# The length of a door's segment.
+DOOR_LOG = 9
 
 
 class Program:
@@ -64,6 +65,10 @@ class Program:
             self._publish(module)
         # A program with doors lends its stack to one caller after the other: its functions leave nothing there.
         self.wipes = any(name.startswith(DOOR) for name in self.public)
+        # One with doors or shared words may be handed a pointer to a door of others, and call it.
+        self.is_alone = not any(name.startswith((DOOR, SHARED, EMPTY)) for module in modules
+                                for name in (*module.functions, *module.globals))
+        self.entering = Entering(self)
 
     def _publish(self, module: Module) -> None:
         for name, function in module.functions.items():
@@ -165,7 +170,7 @@ class Program:
 
     def want_global(self, module: Module, called: str) -> Segment:
         home, name = self.found(module, called)
-        if home is None and name.startswith((DOOR, SHARED, EMPTY)):
+        if name.startswith(DOOR) or home is None and name.startswith((SHARED, EMPTY)):
             return self._foreign(module, name)
         if name == HEAP:
             return self._heap(module)
@@ -185,7 +190,7 @@ class Program:
         return found
 
     def _foreign(self, module: Module, name: str) -> Segment:
-        """What another program defines: a door, or words that it shares."""
+        """A door, which may be the program's own, or words that another program shares."""
         found = self.segments.get((0, name))
         if found is None:
             self.foreign.add(public_name(name))
@@ -357,7 +362,7 @@ class Program:
             target = place.target
             if isinstance(target, BlockAddress):
                 names.label(target.function)
-            elif names.is_function(target.name):
+            elif names.is_function(target.name) and not names.is_door(target.name):
                 names.label(target.name)
             else:
                 names.segment(target.name)
@@ -383,11 +388,11 @@ class Program:
         if isinstance(target, BlockAddress):
             home = self.home(module, target.function) or module
             return f"xu {self.blocks[id(home), target.function, target.block]}", None if not place.by else place.by
-        if names.is_function(target.name):
+        if names.is_function(target.name) and not names.is_door(target.name):
             return f"xu {names.label(target.name)}", None if not place.by else place.by
         found = self.want_global(module, target.name)
         at = found.known.place + place.by
-        permission = "rw" if found.writable else "ro"
+        permission = "eu" if names.is_door(target.name) else "rw" if found.writable else "ro"
         if 0 <= at < 1 << found.known.log:
             return f"{permission} {found.name}+{at}", None
         return f"{permission} {found.name}+{found.known.place}", place.by

@@ -52,7 +52,7 @@ class SourceWriter:
         leave = self.leaving()
         data = [self.segment(segment) for segment in program.segments.values() if segment.name not in program.foreign]
         body: list[str] = []
-        for text in program.texts:
+        for text in [*program.texts, *program.entering.text()]:
             body += self.text(text)
         calls: list[tuple[Optional[str], Optional[str]]] = [(made, None) for made in before]
         calls += [(at_exit, made) for made in after]
@@ -62,6 +62,7 @@ class SourceWriter:
         pool = [f"{name}: .ptr {target}" for target, name in self.pool.items()]
         lines = [f".segment {program.prefix}text {self.log_of_text(first + body, pool)}", *first, *body, *pool]
         lines += [line for part in data for line in part]
+        lines += program.entering.segment()
         lines += self.doors(entered)
         if label is not None:
             lines += self.thread()

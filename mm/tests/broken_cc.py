@@ -1,8 +1,8 @@
 """Broken lines of `mm/cc`, each of which the tests must notice: a path, the text of a line, what is put into its place,
 and the module of tests that notices it."""
 
-VALUES, CLANG, CC, SAID, DOORS, LIBRARY, SELDOM = (
-    f"mm.tests.test_cc{part}" for part in ("_values", "_clang", "", "_said", "_doors", "_library", "_seldom"))
+VALUES, CLANG, CC, SAID, DOORS, ENTERING, LIBRARY, SELDOM = (
+    f"mm.tests.test_cc{part}" for part in ("_values", "_clang", "", "_said", "_doors", "_entering", "_library", "_seldom"))
 BROKEN = (
     # Numbers.
     ("mm/cc/arithmetic.py", 'op, (a, b) = "lts" if op == "ltu" else op, distances', "a, b = distances", VALUES),
@@ -31,8 +31,8 @@ BROKEN = (
     ("mm/cc/parts.py", "at += by", "pass", CLANG),
     ("mm/cc/runtime/memory.c", "for (; at < size && (bits_of(a) + at & 7); at++)\n            a[at] = b[at];", "", CLANG),
     ("mm/cc/objects.py", "if made.align > WORD:", "if made.align > 64:", VALUES),
-    ("mm/cc/accesses.py", 'change = self.op("and", self.op("xor", self.op("shr", old, shift), value), self.constant((1 << 8 * size) - 1))',
-     'change = self.op("xor", self.op("shr", old, shift), value)', VALUES),
+    ("mm/cc/accesses.py", 'change = self.op("and", self.op("xor", self.op("shr", word, shift), value), self.constant((1 << 8 * size) - 1))',
+     'change = self.op("xor", self.op("shr", word, shift), value)', VALUES),
     ("mm/cc/accesses.py", 'return self.op("sar", word, self.constant(64 - bits))', 'return self.op("shr", word, self.constant(64 - bits))',
      VALUES),
     ("mm/cc/sequences.py", "self.store(base, word, -4)", "self.store(base, word, 4)", VALUES),
@@ -89,7 +89,7 @@ BROKEN = (
     ("mm/cc/ends.py", "if {label for _, label in made.cases} <= {made.labels[0]}:", "if not made.cases:", VALUES),
     ("mm/cc/parse.py", "self.module.wide = int(wide[1]) // 8 if wide else WORD", "self.module.wide = 16", VALUES),
     ("mm/cc/arithmetic.py", '"freeze", "atomicrmw", "cmpxchg"}', '"freeze"}', VALUES),
-    ("mm/cc/objects.py", 'if how in ("add", "sub") and bits_of(old.type) == 64:', "if False:", VALUES),
+    ("mm/cc/atomic.py", 'if how in ("add", "sub") and bits_of(old.type) == 64:', "if False:", VALUES),
     ("mm/cc/modulenames.py", "if self.is_absent(value.name):", "if False:", VALUES),
     ("mm/cc/vectors.py", "found = Local(made.type, name)", "pass", VALUES),
     ("mm/cc/ir.py", " or self.aliases.get(name)", "", CC),
@@ -124,6 +124,15 @@ BROKEN = (
     ("mm/cc/handed.py", "return not (isinstance(type_, IntType) and type_.bits >= INT_BITS)", "return True", DOORS),
     ("mm/cc/handed.py", " or self.tested & set(self.chain(value)):", ":", DOORS),
     ("mm/cc/handed.py", "self.results[key], self.changed = given, True", "pass", DOORS),
+    ("mm/cc/entering.py", "(*KEPT, SECOND, STACK)", "(*KEPT, SECOND)", ENTERING),
+    ("mm/cc/entering.py", "load(SCRATCH, STACK, BEFORE), store(SECOND, SCRATCH, 0),", "", ENTERING),
+    ("mm/cc/entering.py", "*move_to_slot(SECOND, SCRATCH, LINK), load(STACK", "load(STACK", ENTERING),
+    ("mm/cc/program.py", 'permission = "eu" if names.is_door(target.name) else', "permission =", ENTERING),
+    ("mm/cc/lowering.py", "if self.names.is_function(name) and not self.names.is_door(name):", "if self.names.is_function(name):", ENTERING),
+    ("mm/cc/calls.py", "if self.from_others:", "if False:", ENTERING),
+    ("mm/cc/atomic.py", 'TAKE, PUT_BACK, STORE = "full, empty", "empty, full", "full, keep"',
+     'TAKE, PUT_BACK, STORE = "any, keep", "any, keep", "any, keep"', DOORS),
+    ("mm/cc/shared.py", 'or "atomic" in each.words', "", DOORS),
     # The second reckoning.
     ("mm/cc/checked.py", 'self.emit("check", None, register, second)', "pass", VALUES),
     ("mm/cc/cache.py", "if hashlib.sha256(said).hexdigest().encode() != last:", "if False:", CLANG),

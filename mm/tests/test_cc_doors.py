@@ -169,17 +169,31 @@ int main(void)
     return *p = 666;
 }
 """
-# Two programs that each count in a byte of their own of one word, and what helps: a word for each, or to take the word.
+# Two programs that each count in a byte of their own of one word, and what helps: atomic bytes, a word for each, or to take
+# the word; and whether `mm cc` warns.
 COUNTED = """#include <mm.h>
 SHARED
 MM_THREAD(NUMBER, NUMBER, -1);
 int main(void) { for (int i = 0; i < 100; i++) { COUNT } return 0; }
 """
 COUNTING = (
-    ("extern volatile char box[8] MM_SHARED(box);", "volatile char box[8] = {0};", "box[NUMBER]++;", False),
-    ("extern volatile long box[2] MM_SHARED(box);", "volatile long box[2] = {0};", "box[NUMBER]++;", True),
-    ("extern long box MM_SHARED(box);", "long box = 0;", "mm_put(&box, mm_take(&box) + (1 << 8 * NUMBER));", True),
+    ("extern volatile char box[8] MM_SHARED(box);", "volatile char box[8] = {0};", "box[NUMBER]++;", False, True),
+    ("extern volatile long box[2] MM_SHARED(box);", "volatile long box[2] = {0};", "box[NUMBER]++;", True, False),
+    ("extern long box MM_SHARED(box);", "long box = 0;", "mm_put(&box, mm_take(&box) + (1 << 8 * NUMBER));", True, False),
+    ("extern _Atomic unsigned char box[8] MM_SHARED(box);", "_Atomic unsigned char box[8] = {0};", "box[NUMBER]++;", True, False),
+    ("extern _Atomic short box[4] MM_SHARED(box);", "_Atomic short box[4] = {0};", "box[3 - NUMBER] = box[3 - NUMBER] + 1;", True, False),
+    ("extern _Atomic int box[2] MM_SHARED(box);", "_Atomic int box[2] = {0};",
+     "int n = box[NUMBER]; while (!__atomic_compare_exchange_n((int *)&box[NUMBER], &n, n + 1, 1, 5, 5)) ;", True, False),
+    ("extern _Atomic char box[8] MM_SHARED(box);", "_Atomic char box[8] = {0};",
+     "_Atomic char *volatile at = box + NUMBER; *at = *at + 1;", True, False),
 )
+# Two programs that add to the same object, of each width.
+ADDED = """#include <mm.h>
+extern _Atomic TYPE box[8] MM_SHARED(box);
+DEFINED
+MM_THREAD(NUMBER, NUMBER, -1);
+int main(void) { for (int i = 0; i < 60; i++) box[1] += NUMBER + 1; return 0; }
+"""
 # A door whose parameter goes from one client to another.
 HOLDS = """#include <mm.h>
 void put(long x) MM_DOOR(put);
@@ -257,15 +271,28 @@ class Left(unittest.TestCase):
     @needs_clang
     def test_bytes_of_one_word_that_two_programs_count(self):
         """As the page says of shared words: what another program wrote to the other bytes of a word is lost, and what helps."""
-        for declared, defined, count, all_are_there in COUNTING:
+        for declared, defined, count, all_are_there, is_warned_of in COUNTING:
             with folder() as room:
                 paths = [write(room, f"p{number}.c", COUNTED.replace("SHARED", declared + "\n" + ("" if number else defined))
                                .replace("COUNT", count).replace("NUMBER", str(number))) for number in (0, 1)]
-                form = json.loads(mm("run", "--json", *paths).out)
+                ended = mm("run", "--json", *paths)
+                self.assertEqual(ended.err.count("warning: this stores a whole word of `box`, which is shared"), 2 * is_warned_of, ended.err)
+                form = json.loads(ended.out)
                 self.assertEqual([slot["state"] for slot in form["slots"]], ["halted"] * 2, count)
-                box = [cell["word"]["integer"] for cell in form["cells"] if (cell["name"] or "").startswith("box")]
+                box = [int(cell["word"]["bits"], 16) for cell in form["cells"] if (cell["name"] or "").startswith("box")]
                 numbers = [byte for word in box for byte in word.to_bytes(8, "little") if byte]
                 self.assertEqual(numbers == [100, 100], all_are_there, f"{count} {numbers}")
+
+    @needs_clang
+    def test_an_atomic_object_that_two_programs_change(self):
+        for type_, size in (("char", 1), ("short", 2), ("int", 4), ("long", 8)):
+            with folder() as room:
+                texts = [ADDED.replace("DEFINED", "" if number else "_Atomic TYPE box[8] = {1, 2, 3};") for number in (0, 1)]
+                paths = [write(room, f"p{number}.c", text.replace("TYPE", type_).replace("NUMBER", str(number))) for number, text in enumerate(texts)]
+                form = json.loads(mm("run", "--json", "-O0", *paths).out)
+            cell = next(cell for cell in form["cells"] if cell["name"] == ("box+8" if size == 8 else "box"))
+            value = cell["word"]["integer"] >> (0 if size == 8 else 8 * size) & (1 << 8 * size) - 1
+            self.assertEqual((value, cell["full"]), (2 + 180, True), type_)
 
     @needs_clang
     def test_numbers(self):

@@ -12,7 +12,8 @@ enum { MM_RO = 1, MM_RW = 2, MM_XU = 3, MM_XP = 4, MM_EU = 5, MM_EP = 6, MM_KEY 
    it. */
 #define MM_DOOR(name) __asm__("mm_door_" #name)
 
-/* Words that several programs share, one of which defines them: `extern long box[4] MM_SHARED(box);`. */
+/* Words that several programs share, one of which defines them: `extern long box[4] MM_SHARED(box);`. What is shorter than
+   a word is to be `_Atomic`, or a store to it loses what others store beside it. */
 #define MM_SHARED(name) __asm__("mm_shared_" #name)
 
 /* The same, and all words are empty at first. */
