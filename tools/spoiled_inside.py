@@ -122,10 +122,10 @@ class Between:
             self.known[key] = answer
         return answer
 
-    def tell(self, number, status, out, diag, words):
+    def tell(self, number, status, out, diag, takes_nothing, words):
         """Writes a run down, as the stand-in does."""
         with open(os.path.join(self.here, f"told.{number}"), "w", encoding="utf-8", errors="surrogateescape") as file:
-            file.write(f"{number} {status} {len(out)} {len(diag)} 0 {' '.join(words)}".replace("\n", " "))
+            file.write(f"{number} {status} {len(out)} {len(diag)} {2 * takes_nothing} {' '.join(words)}".replace("\n", " "))
 
     def run(self, args, *, input=None, capture_output=False, timeout=None, check=False, **how):
         if capture_output:
@@ -137,7 +137,8 @@ class Between:
         words, number = [str(word) for word in args[1:]], self.number()
         status, out, diag = self.answer(words, how.get("cwd"), given)
         if self.at == 0:
-            self.tell(number, status, out, diag, words)
+            error = how.get("stderr")
+            self.tell(number, status, out, diag, getattr(error, "name", error) in ("/dev/full", DEVNULL), words)
         elif number == self.at:
             status, out, diag = spoiled(self.way, status, out, diag)
         if how["stdout"] != PIPE:

@@ -53,6 +53,9 @@ TREES = [
      "bits(A) shifted right by bits(B), with zeros"),
     ("a definition has another meaning than its row", CLAIMS, "crates/mm_isa/specs/Alu.antt", "alu_result Or a b = Ok (bit_or a b)",
      "alu_result Or a b = Ok (bit_xor a b)"),
+    ("C catches what it does not catch", CLAIMS, "docs/C.md", "  - Fields of one structure, and rows of one array of arrays, have no fence between them.\n", ""),
+    ("all is whole in the quick form", CLAIMS, "docs/RELIABILITY.md", "and of the other parts every so many\ncases that are alike are tried.",
+     "and so are the other parts."),
     ("a server answers everybody", CLAIMS, "docs/SERVE.md", "- Without `--host` only your own computer", "- Without `--host` everybody"),
     ("a wrong body has no row", CLAIMS, "docs/WRONG.md", "| pushes_nothing ", "| pushes_something "),
     # Code.

@@ -170,14 +170,15 @@ class Texts(unittest.TestCase):
 @needs_program
 class Searches(unittest.TestCase):
     def test_a_search_tells_how_far_it_is(self):
-        words = ["explore", "--states", "30000", "docs/course/race.asm"]
-        status, text = at_terminal([sys.executable, "-c", HASTY, *words])
-        told = text.split(ANEW.encode())
-        self.assertGreater(len(told), 2)
-        for line in told[1:-1]:
-            self.assertRegex(line, rb"^mm: (looking|[\d,]+ configurations? so far, with .*), \d+ s$")
-        self.assertEqual((status, told[0] + COLOURS.sub(b"", told[-1])), piped(*MM, *words))
-        self.assertNotIn(b"\r", at_terminal([sys.executable, "-c", HASTY, *words], TERM="dumb")[1])
+        with folder() as room:
+            words = ["explore", "--states", "200000", write(room, "counts.asm", ENDLESS)]
+            status, text = at_terminal([sys.executable, "-c", HASTY, *words])
+            told = text.split(ANEW.encode())
+            self.assertGreater(len(told), 2)
+            for line in told[1:-1]:
+                self.assertRegex(line, rb"^mm: (looking|[\d,]+ configurations? so far, with .*), \d+ s$")
+            self.assertEqual((status, told[0] + COLOURS.sub(b"", told[-1])), piped(*MM, *words))
+            self.assertNotIn(b"\r", at_terminal([sys.executable, "-c", HASTY, *words], TERM="dumb")[1])
 
     @needs_program
     def test_cases_tell_how_far_they_are(self):

@@ -149,7 +149,8 @@ def line_of(asking: Asking, command: str, data: bytes) -> str:
     """The line on standard error of a command with a file, or with a standard input."""
     path = asking.file("long", data)
     words = [path if word == "{}" else word for word in command.split()]
-    ended = subprocess.run([asking.program, *words], input=data if "{}" not in command else b"", capture_output=True, check=False)
+    given = data if "{}" not in command else b""
+    ended = asking.watched.run([asking.program, *words], input=given, capture_output=True, check=False)
     return ended.stderr.decode("latin-1")
 
 
