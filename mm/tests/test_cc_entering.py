@@ -219,6 +219,35 @@ long takes(int a, unsigned char b, _Bool c, unsigned d) { return (long)a + b * 1
 """
 TAKEN = ".segment caller 5\n jal r14, r5\n halt\n.thread 0 0 none xu caller\n.reg 5 ptr eu door_takes+16\n" + "".join(
     f".reg {register} int {value}\n" for register, value in enumerate((0x100000001, 0x102, 3, 0x100000004)))
+# What no door can have: structures would be in memory of whoever enters.
+LARGE = """#include <mm.h>
+struct large { long a, b; };
+RESULT whole(TYPE x) MM_DOOR(whole);
+"""
+LARGER = ("struct large", "long"), ("long", "struct large")
+DEFINES = "RESULT whole(TYPE x) { struct large made = {1, 2}; return RETURNED; }\n"
+CALLS = "int main(void) { struct large made = {1, 2}; whole(HANDED); return made.a; }\n"
+INSIDE = """#include <mm.h>
+#include <stdarg.h>
+MM_THREAD(0, 0, -1);
+struct large { long a, b; };
+long peek(long n) MM_DOOR(peek);
+static long by_value(struct large x) { return x.a; }
+static struct large made(long n) { return (struct large){n, n + 1}; }
+static long seventh(long a, long b, long c, long d, long e, long f, long g) { return g; }
+static long second(long n, ...) { va_list l; va_start(l, n); return va_arg(l, long); }
+int main(void)
+{
+    struct large x = {1, 2};
+    long (*volatile a)(struct large) = WHERE by_value;
+    struct large (*volatile b)(long) = WHERE made;
+    long (*volatile c)(long, long, long, long, long, long, long) = WHERE seventh;
+    long (*volatile d)(long, ...) = WHERE second;
+    return CALL;
+}
+"""
+# Calls of functions of the program through pointers, and what they give.
+STAY = (("a(x)", 1), ("b(2).b", 3), ("c(0, 0, 0, 0, 0, 0, 7)", 7), ("d(1, 5l)", 5))
 MANY = """#include <mm.h>
 long many(long a, long b, long c, long d, long e, long f, long g) MM_DOOR(many);
 int main(void) { return many(1, 2, 3, 4, 5, 6, 7); }
@@ -284,6 +313,25 @@ class Entering(unittest.TestCase):
             self.assertEqual(form["slots"][0]["registers"]["r0"]["integer"], 1, f"{type_} {low}")
         form = self.form("1", TAKES, TAKEN)
         self.assertEqual(form["slots"][0]["registers"]["r0"]["integer"], 1 + 20 + 100 + 4000)
+
+    def test_structures_at_doors(self):
+        with folder() as room:
+            for result, type_ in LARGER:
+                text = LARGE.replace("RESULT", result).replace("TYPE", type_)
+                made = "made" if result != "long" else "x.a"
+                defines = text + DEFINES.replace("RESULT", result).replace("TYPE", type_).replace("RETURNED", made)
+                calls = text + CALLS.replace("HANDED", "made" if type_ != "long" else "1")
+                for name, said in (("defines", defines), ("calls", calls)):
+                    ended = mm("cc", "--clang", "-w", write(room, f"{name}.c", said))
+                    self.assertEqual(ended.status, 2, f"{name} {result}")
+                    self.assertIn("a door that takes or gives a structure is left out", ended.err)
+
+    def test_calls_that_stay_in_the_program(self):
+        for call, wanted in STAY:
+            slot = self.form("1", INSIDE.replace("WHERE", "").replace("CALL", call), PEEK)["slots"][0]
+            self.assertEqual((slot["state"], slot["registers"]["r0"]["integer"]), ("halted", wanted), call)
+            slot = self.form("1", INSIDE.replace("WHERE", "(void *)peek; //").replace("CALL", call), PEEK)["slots"][0]
+            self.assertEqual((slot["state"], slot["instruction"]), ("faulted", "trap 9"), call)
 
     def test_more_arguments_than_a_door_can_have(self):
         with folder() as room:
