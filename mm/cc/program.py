@@ -321,7 +321,7 @@ class Program:
         for block in code.blocks:
             for op in block.body:
                 op.line = notes.place(op.line)
-        blocks = emit(code, self.fresh, notes, addressed, self.wipes)
+        blocks = emit(code, self.fresh, notes, addressed, self.wipes, self.is_alone)
         self._note(blocks, function, notes)
         self.texts.append(blocks)
 
