@@ -210,6 +210,17 @@ int main(void) { put((long)&mine); long x = get(); __mm_op_out(48 + __mm_op_ispt
 """
 
 
+# Globals with the names of a program's own segments, and of what others know.
+NAMES = """#include <mm.h>
+extern long box[2] MM_SHARED(shared);
+long box[2];
+static long text = 1, stack = 2, heap = 3, turn = 4, door_stack = 5, door_f = 6, shared = 7;
+long f(void) MM_DOOR(f);
+long f(void) { return text++ + stack++ + heap++ + turn++ + door_stack++ + door_f++ + shared++ + box[0]++; }
+int main(void) { return f(); }
+"""
+# What is no door: another name of a function, and a variable.
+NO_DOORS = ("long f(void) { return 1; } long door(void) MM_DOOR(door) __attribute__((alias(\"f\")));", "long door MM_DOOR(door) = 1;")
 # Doors that test what they are handed, as the page says, and what hostile callers hand over: a segment in which there is no
 # word, and pointers that nobody can move. The last is an atomic operation on a word that somebody has put a key into.
 TESTS = """#include <mm.h>
@@ -299,6 +310,22 @@ class Left(unittest.TestCase):
                 first, second = form["slots"]
                 self.assertEqual((first["state"], first["registers"].get("r0"), second["state"]), ("halted", None, "faulted"), level)
                 self.assertEqual([group["output"]["text"] for group in form["groups"]], ["", "0"], level)
+
+    @needs_clang
+    def test_names_of_segments(self):
+        with folder() as room:
+            for words in ((), ("--prefix", "own")):
+                source = write(room, "names.asm", mm("cc", *words, write(room, "names.c", NAMES)).out)
+                slot = json.loads(mm("run", "--json", source).out)["slots"][0]
+                self.assertEqual((slot["state"], slot["registers"]["r0"]["integer"]), ("halted", 28), words)
+
+    @needs_clang
+    def test_what_is_no_door(self):
+        with folder() as room:
+            for text in NO_DOORS:
+                ended = mm("cc", write(room, "none.c", "#include <mm.h>\n" + text))
+                self.assertEqual(ended.status, 2, text)
+                self.assertIn("none.c: door: a door that is no function of its own is left out", ended.err)
 
     @needs_clang
     def test_what_hostile_callers_hand_over(self):
