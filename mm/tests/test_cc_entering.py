@@ -219,6 +219,44 @@ long takes(int a, unsigned char b, _Bool c, unsigned d) { return (long)a + b * 1
 """
 TAKEN = ".segment caller 5\n jal r14, r5\n halt\n.thread 0 0 none xu caller\n.reg 5 ptr eu door_takes+16\n" + "".join(
     f".reg {register} int {value}\n" for register, value in enumerate((0x100000001, 0x102, 3, 0x100000004)))
+# A caller that hands a local to a door, which keeps the pointer and looks later what is there: a way back, and what the caller
+# has saved. Each line says what `mm cc` warns of.
+LENDS = """#include <mm.h>
+MM_THREAD(0, 0, -1);
+long lend(long *p) MM_DOOR(lend);
+long again(void) MM_DOOR(again);
+static long secret = 4711;
+static __attribute__((noinline)) long first(void) { HELD room[8] = {1}; lend(room); return room[0]; }
+static __attribute__((noinline)) long deep(long n, long *p)
+{
+    long t[3] = {n, 1, 2};
+    long *volatile q = p;
+    again();
+    return n ? deep(n - 1, t + 1) + *q : *q;
+}
+int main(void) { first(); return deep(3, &secret); }
+"""
+KEEPS = """#include <mm.h>
+long lend(long *p) MM_DOOR(lend);
+long again(void) MM_DOOR(again);
+static long *kept;
+static long found;
+long lend(long *p) { kept = p; return 0; }
+long again(void) { for (int i = 0; i < 8; i++) found += __mm_op_isptr((void *)kept[i]); return 0; }
+"""
+LENT = (
+    ("long a[2] = {1, 2}; lend(a + 1);", "the local `a`"), ("long a = 1; lend(&a);", "the local `a`"),
+    ("struct { long a, b; } s = {1, 2}; lend(&s.b);", "the local `s`"), ("lend((long[]){1, 2});", "a local"),
+    ("long a[n + 2]; *a = 1; lend(a);", "a local"), ("static long a; lend(&a);", ""), ("own(&n);", ""),
+)
+LENDING = """#include <mm.h>
+MM_THREAD(0, 0, -1);
+long lend(long *p) MM_DOOR(lend);
+long own(long *p) MM_DOOR(own);
+long own(long *p) { return *p; }
+int run(long n) { LENT return n; }
+int main(void) { return run(3); }
+"""
 # What no door can have: structures would be in memory of whoever enters.
 LARGE = """#include <mm.h>
 struct large { long a, b; };
@@ -313,6 +351,18 @@ class Entering(unittest.TestCase):
             self.assertEqual(form["slots"][0]["registers"]["r0"]["integer"], 1, f"{type_} {low}")
         form = self.form("1", TAKES, TAKEN)
         self.assertEqual(form["slots"][0]["registers"]["r0"]["integer"], 1 + 20 + 100 + 4000)
+
+    def test_locals_that_a_door_keeps(self):
+        for held, is_reached in (("long", True), ("static long", False)):
+            form = self.form("1", LENDS.replace("HELD", held), KEEPS)
+            found = any(cell["name"].endswith("_found") for cell in form["cells"] if cell["name"])
+            self.assertEqual((form["slots"][0]["state"], found), ("halted", is_reached), held)
+        with folder() as room:
+            for lines, local in LENT:
+                for level in "02":
+                    ended = mm("cc", f"-O{level}", write(room, "lending.c", LENDING.replace("LENT", lines)))
+                    said = f"warning: this hands {local} to the door `lend`, which can keep the pointer"
+                    self.assertEqual((ended.err.count("warning: this hands"), said in ended.err), (bool(local), bool(local)), f"{lines} {ended.err}")
 
     def test_structures_at_doors(self):
         with folder() as room:
