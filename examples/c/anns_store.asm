@@ -62,6 +62,9 @@ L3:
   bz r0, L13
   ldi r0, 54
   shr r0, r11, r0
+  ldi r1, 320
+  ltu r1, r0, r1
+  bz r1, L13
   xor r1, r2, r11
   shr r1, r1, r0
   bnz r1, L13
@@ -188,6 +191,9 @@ L17:
   bz r0, L27
   ldi r0, 54
   shr r0, r10, r0
+  ldi r1, 320
+  ltu r1, r0, r1
+  bz r1, L27
   xor r1, r2, r10
   shr r1, r1, r0
   bnz r1, L27
@@ -287,6 +293,9 @@ L29:
   bz r0, L32
   ldi r0, 54
   shr r0, r12, r0
+  ldi r1, 320
+  ltu r1, r0, r1
+  bz r1, L32
   xor r1, r2, r12
   shr r1, r1, r0
   bnz r1, L32

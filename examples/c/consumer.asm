@@ -58,6 +58,9 @@ L2:
   bz r0, L6
   ldi r0, 54
   shr r0, r9, r0
+  ldi r1, 320
+  ltu r1, r0, r1
+  bz r1, L6
   xor r1, r2, r9
   shr r1, r1, r0
   bnz r1, L6

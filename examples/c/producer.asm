@@ -1,4 +1,4 @@
-.segment producer_text 9
+.segment producer_text 10
 start:
   ldi r0, 1
   ldi r1, 0
@@ -43,6 +43,9 @@ L2:
   bz r0, L5
   ldi r0, 54
   shr r0, r10, r0
+  ldi r1, 320
+  ltu r1, r0, r1
+  bz r1, L5
   xor r1, r2, r10
   shr r1, r1, r0
   bnz r1, L5

@@ -73,6 +73,9 @@ L23:
   bz r0, L24
   ldi r0, 54
   shr r0, r4, r0
+  ldi r1, 320
+  ltu r1, r0, r1
+  bz r1, L24
   xor r1, r2, r4
   shr r1, r1, r0
   bnz r1, L24

@@ -5,6 +5,7 @@ from __future__ import annotations
 
 from mm.cc.arithmetic import Arithmetic
 from mm.cc.code import ARGUMENTS, Call
+from mm.cc.failures import A_STRUCTURE
 from mm.cc.forms import RAW, SIGNED, ZEROED, bits_of
 from mm.cc.ir import Argument, Expression, Global, Instruction, IntType, Local, PointerType, Type, Value, VoidType
 from mm.cc.pointers import Pointer
@@ -59,14 +60,18 @@ class Calls(Arithmetic):
                     twice=isinstance(callee, Global) and callee.name in ("setjmp", "_setjmp"))
         through = None
         door = self.names.door(callee.name, len(call.arguments)) if isinstance(callee, Global) else None
+        in_memory = any(argument.is_in_memory for argument in made.arguments)
         if door is not None:
             if call.stacked or variadic:
                 raise Untranslated("a call of a door with more than six arguments, or with variable ones,")
+            if in_memory:
+                raise Untranslated(f"a call of {A_STRUCTURE}")
             call.label = door
         elif isinstance(callee, Global) and self.names.is_function(callee.name):
             call.label = self.names.label(callee.name)
         else:
-            call.label = self.names.through_pointer(len(call.arguments), variadic)
+            stays = in_memory or variadic or bool(call.stacked)
+            call.label = self.names.through_pointer(len(call.arguments), variadic, stays)
             through = self.whole(self.pointer(callee))
         self.emit("call", None, through, extra=call)
         self.from_others = door is not None or through is not None and bool(call.label)

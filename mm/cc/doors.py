@@ -5,6 +5,7 @@ from __future__ import annotations
 from typing import Optional
 
 from mm.cc.code import ARGUMENTS
+from mm.cc.failures import A_STRUCTURE, INSTEAD_OF
 from mm.cc.ir import Function, IntType, Module, Number, Parts, PointerType, VoidType, Zero
 from mm.cc.modulenames import public_name
 from mm.cc.options import Options
@@ -16,13 +17,22 @@ NO_HANDLER = -1
 
 def doors_of(program: Program) -> list[tuple[Module, Function]]:
     """The doors that a program has."""
-    return [(module, function) for name, module in program.public.items() if name.startswith(DOOR)
-            for function in [module.functions[name]]]
+    return [(module, door(module, name)) for name, module in program.public.items() if name.startswith(DOOR)]
+
+
+def door(module: Module, name: str) -> Function:
+    """The function of a door. An alias of one, or a variable, has no code of its own to enter."""
+    function = module.functions.get(name)
+    if function is None:
+        raise Failure(f"{module.name}: {name[len(DOOR):]}", "a door that is no function of its own")
+    return function
 
 
 def check(module: Module, function: Function) -> None:
-    """A door takes and gives single words, in registers."""
+    """A door takes and gives single words, in registers. A structure would stay in memory of whoever enters."""
     layouts = module.layouts()
+    if any(parameter.is_in_memory for parameter in function.parameters):
+        raise Failure(f"{module.name}: {function.name}", A_STRUCTURE, None, INSTEAD_OF[A_STRUCTURE])
     types = [layouts.plain(parameter.type) for parameter in function.parameters]
     result = layouts.plain(function.result)
     words = all(isinstance(type_, PointerType) or isinstance(type_, IntType) and type_.bits <= 64 for type_ in types)

@@ -21,10 +21,10 @@ class Emission:
     """Writes the text of a function."""
 
     def __init__(self, code: Code, allocation: Allocation, link: bool, fresh: Callable[[], str],
-                 naming: Naming, wipes: bool = False) -> None:
+                 naming: Naming, wipes: bool = False, alone: bool = True) -> None:
         self.code, self.allocation, self.link, self.here, self.naming = code, allocation, link, fresh, naming
-        # Whether a function leaves nothing in its frame.
-        self.wipes = wipes
+        # Whether a function leaves nothing in its frame, and whether no other program hands pointers to it.
+        self.wipes, self.alone = wipes, alone
         self.frame = Frame(code, allocation, link)
         self.base = FRAME if code.dynamic else STACK
         self.blocks: list[TextBlock] = []

@@ -28,6 +28,8 @@ SLOTS_LOG, WORD_LOG = 4, 3
 # Where a pointer has its permission and the length of its segment; and the permissions with which one can jump to it.
 PERMISSION, LENGTH, EXECUTE, JUMPED_TO = 60, 54, 3, 4
 PLAIN = "any, keep"
+# The trap of a call that cannot leave the program.
+STAYS = 9
 
 
 def line(op: str, *operands: object, target: Optional[str] = None) -> Line:
@@ -74,18 +76,17 @@ class Entering:
                            line("br", target=self.clear_from(arguments))]
         return self.labels[key]
 
-    def pointer(self, arguments: int, variadic: bool) -> str:
+    def pointer(self, arguments: int, variadic: bool, stays: bool) -> str:
         """The label by which a call with so many arguments goes through a pointer: to a function of the program, which has its
-        segment and its permission, or out."""
+        segment and its permission, or out. What stays has something for the callee on the caller's stack, where no door is to
+        reach: a structure, variable arguments, or more of them than there are registers. It is stopped instead."""
         spare = arguments if variadic else VARIADIC
         if variadic and spare == VARIADIC:
             raise Untranslated("a call through a pointer with six arguments and variable ones, in a program with doors")
-        key = "", 16 * arguments + spare
+        key = "", 16 * (16 * stays + arguments) + spare
         if key not in self.labels:
             block = self.begin(key, "call_pointer")
             other, wrong, out = (TextBlock(self.program.fresh()) for _ in range(3))
-            if not self.pointers:
-                self.pointers = self.row("pointer", ".int 0")
             block.lines = [
                 line("lip", f"r{SCRATCH}", 0), number(spare, LENGTH), line("shr", f"r{spare}", f"r{SCRATCH}", f"r{spare}"),
                 line("xor", f"r{SCRATCH}", f"r{SCRATCH}", f"r{SECOND}"), line("shr", f"r{SCRATCH}", f"r{SCRATCH}", f"r{spare}"),
@@ -99,10 +100,17 @@ class Entering:
             ]
             # What is no pointer to jump to is a fault at this call.
             wrong.lines = [line("jmp", f"r{SECOND}")]
-            out.lines = [line("mov", f"r{SCRATCH}", f"r{SECOND}"), line("lip", f"r{SECOND}", target=self.pointers),
-                         line("br", target=self.clear_from(arguments))]
+            out.lines = [line("trap", STAYS)] if stays else [
+                line("mov", f"r{SCRATCH}", f"r{SECOND}"), line("lip", f"r{SECOND}", target=self.row_of_pointers()),
+                line("br", target=self.clear_from(arguments))]
             self.blocks += [other, wrong, out]
         return self.labels[key]
+
+    def row_of_pointers(self) -> str:
+        """The row of all that is called through a pointer."""
+        if not self.pointers:
+            self.pointers = self.row("pointer", ".int 0")
+        return self.pointers
 
     def begin(self, key: tuple[str, int], name: str) -> TextBlock:
         """A block that is called, with the caller's stack pointer as it is."""
@@ -131,8 +139,9 @@ class Entering:
 
     def text(self) -> Iterator[list[TextBlock]]:
         """All of it, if it is used."""
-        if self.back:
+        if self.blocks:
             yield self.blocks
+        if self.back:
             yield [*self.way_out(), *self.way_back(self.back)]
             yield self.rows
 

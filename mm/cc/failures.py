@@ -38,7 +38,9 @@ NO_HEADER = re.compile(r"error: '([^']+)' file not found")
 OTHER_FOLDER = "headers are looked for beside the file that includes them; `--clang -IDIR` names another folder"
 ONCE = "define it in one of them, and declare it in a header (a variable with `extern`); or make both `static`"
 ONE_MAIN = "a program has one `main`; `mm run` takes each of several files for a program of its own"
-INSTEAD_OF = {"floating point": NO_FLOATS,
+A_STRUCTURE = "a door that takes or gives a structure"
+INSTEAD_OF = {A_STRUCTURE: "hand over a pointer to one: then it is plain that both sides can change it meanwhile",
+              "floating point": NO_FLOATS,
               "assembler text": "`mm.h` names the machine's own operations, as `__mm_op_out`"}
 
 

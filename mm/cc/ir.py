@@ -258,6 +258,11 @@ class Argument:
         return self.value.type
 
     @property
+    def is_in_memory(self) -> bool:
+        """Whether it is a structure, which the caller has in its frame: one that is handed over by value, or a result."""
+        return self.by_value is not None or "sret" in self.words
+
+    @property
     def align(self) -> int:
         """What is said of its alignment: that of a pointer, or of what is handed over by value."""
         return max((int(word[5:]) for word in self.words if word[:5] == "align" and word[5:].isdigit()), default=1)

@@ -62,8 +62,9 @@ class Names:
         """The label by which a door of another program is entered with so many arguments; none of what is no such door."""
         raise NotImplementedError
 
-    def through_pointer(self, arguments: int, variadic: bool) -> str:
-        """The label by which a call with so many arguments goes through a pointer; an empty one if it simply jumps there."""
+    def through_pointer(self, arguments: int, variadic: bool, stays: bool) -> str:
+        """The label by which a call with so many arguments goes through a pointer; an empty one if it simply jumps there.
+        What stays in the program can go to no other one."""
         raise NotImplementedError
 
     def is_function(self, name: str) -> bool:

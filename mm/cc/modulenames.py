@@ -91,8 +91,8 @@ class ModuleNames(Names):
         is_foreign = self.is_door(name) and self.program.found(self.module, name)[0] is None
         return self.program.entering.door(name[len(DOOR):], arguments) if is_foreign else None
 
-    def through_pointer(self, arguments: int, variadic: bool) -> str:
-        return "" if self.program.is_alone else self.program.entering.pointer(arguments, variadic)
+    def through_pointer(self, arguments: int, variadic: bool, stays: bool) -> str:
+        return "" if self.program.is_alone else self.program.entering.pointer(arguments, variadic, stays)
 
     def segment(self, name: str) -> tuple[str, Known]:
         found = self.program.want_global(self.module, name)

@@ -29,6 +29,7 @@ HEAP = "__mm_heap"
 ROOTS, ROOTS_LOG = "__mm_roots", 11
 MOST_LOG = 20
 RESERVED = re.compile(r"r\d+|L\d+|P_.*|none|int|ptr|start|stack|text|heap")
+OWN_SEGMENTS = ("text", "stack", "heap", "turn", "door_stack")
 # The length of a door's segment.
 DOOR_LOG = 9
 
@@ -42,7 +43,10 @@ class Program:
         self.prefix = options.prefix + "_" if options.prefix else ""
         self.names = {id(module): ModuleNames(self, module) for module in modules}
         self.public: dict[str, Module] = {}
-        self.taken: set[str] = set()
+        # The names of segments that no global gets: the program's own, and those that others know.
+        self.taken = {self.prefix + name for name in OWN_SEGMENTS} | {
+            public_name(name) for module in modules for name in (*module.functions, *module.globals)
+            if name.startswith((DOOR, SHARED, EMPTY))}
         self.labels: dict[tuple[int, str], str] = {}
         self.segments: dict[tuple[int, str], Segment] = {}
         self.work: list[tuple[Module, str]] = []
@@ -321,7 +325,7 @@ class Program:
         for block in code.blocks:
             for op in block.body:
                 op.line = notes.place(op.line)
-        blocks = emit(code, self.fresh, notes, addressed, self.wipes)
+        blocks = emit(code, self.fresh, notes, addressed, self.wipes, self.is_alone)
         self._note(blocks, function, notes)
         self.texts.append(blocks)
 

@@ -13,6 +13,8 @@ from mm.cc.variables import Naming
 
 # The number of the trap of code that is checked.
 CHECKED = 7
+# From here on the upper ten bits of a pointer, its permission and its length, are those of one that cannot be moved.
+UNMOVED = 5 << 6
 
 
 class Sequences(Calling):
@@ -66,7 +68,8 @@ class Sequences(Calling):
         self.keep(op.d, d)
 
     def _guarded(self, op: Op) -> None:
-        """A pointer moved, if it stays in its segment; else its bits moved."""
+        """A pointer moved, if it stays in its segment; else its bits moved. Another program can hand over an enter pointer or
+        a key, which nobody can move."""
         assert op.a is not None and op.b is not None
         first, second = (self.temporary(register) for register in op.temporary)
         base, by = self.get(op.a, SCRATCH), self.get(op.b, SECOND)
@@ -77,6 +80,10 @@ class Sequences(Calling):
         self.put("bz", f"r{first}", target=label)
         shift = self.get(op.extra[0], first)  # type: ignore[index]
         self.reg("shr", first, base, shift)
+        if not self.alone:
+            self.put("ldi", f"r{second}", UNMOVED)
+            self.reg("ltu", second, first, second)
+            self.put("bz", f"r{second}", target=label)
         self.reg("xor", second, d, base)
         self.reg("shr", second, second, first)
         self.put("bnz", f"r{second}", target=label)
@@ -193,13 +200,14 @@ class Sequences(Calling):
 
 
 def emit(code: Code, fresh: Callable[[], str], naming: Naming, addressed: Iterable[str] = (),
-         wipes: bool = False) -> list[TextBlock]:
+         wipes: bool = False, alone: bool = True) -> list[TextBlock]:
     """The text of a function. The way back is saved where its register is needed for something else. `addressed` are
-    labels that data name, and `wipes` says whether the frame is cleared at the end."""
+    labels that data name, `wipes` says whether the frame is cleared at the end, and `alone` whether all pointers are the
+    program's own."""
     allocation = Allocation(code)
     link = bool(code.objects) or any(op.name == "call" for block in code.blocks for op in block.body)
-    made = Sequences(code, allocation, link, fresh, naming, wipes)
+    made = Sequences(code, allocation, link, fresh, naming, wipes, alone)
     blocks = made.text()
     if made.used_link and not link:
-        blocks = Sequences(code, allocation, True, fresh, naming, wipes).text()
+        blocks = Sequences(code, allocation, True, fresh, naming, wipes, alone).text()
     return tidy(blocks, addressed)

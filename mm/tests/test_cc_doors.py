@@ -210,6 +210,49 @@ int main(void) { put((long)&mine); long x = get(); __mm_op_out(48 + __mm_op_ispt
 """
 
 
+# Globals with the names of a program's own segments, and of what others know.
+NAMES = """#include <mm.h>
+extern long box[2] MM_SHARED(shared);
+long box[2];
+static long text = 1, stack = 2, heap = 3, turn = 4, door_stack = 5, door_f = 6, shared = 7;
+long f(void) MM_DOOR(f);
+long f(void) { return text++ + stack++ + heap++ + turn++ + door_stack++ + door_f++ + shared++ + box[0]++; }
+int main(void) { return f(); }
+"""
+# What is no door: another name of a function, and a variable.
+NO_DOORS = ("long f(void) { return 1; } long door(void) MM_DOOR(door) __attribute__((alias(\"f\")));", "long door MM_DOOR(door) = 1;")
+# Doors that test what they are handed, as the page says, and what hostile callers hand over: a segment in which there is no
+# word, and pointers that nobody can move. The last is an atomic operation on a word that somebody has put a key into.
+TESTS = """#include <mm.h>
+long first(const char *p) MM_DOOR(first);
+long second(const long *p) MM_DOOR(second);
+long more(long *p) MM_DOOR(more);
+long first(const char *p) { return mm_can_read(p, 1) ? *p : -1; }
+long second(const long *p) { return mm_can_read(p + 1, 8) ? p[1] : -1; }
+long more(long *p) { return mm_can_write(p, 8) ? mm_number(__atomic_fetch_add(p, 8, 5)) != 0 : -1; }
+"""
+HOSTILE = """.segment hostile 6
+  MADE
+  jal r14, r5
+  halt
+.segment mine 4
+  .int 7
+  .int 8
+.segment held 3
+  .ptr WHAT mine
+.thread 1 1 none xu hostile
+.reg 0 ptr WHAT PLACE
+.reg 1 ptr rw held
+.reg 5 ptr eu door_DOOR+16
+"""
+SHORT = "ldi r2, 2\n  subseg r0, r0, r2"
+TESTED = (
+    ("first", "rw", "nop", 7), ("first", "rw", SHORT, -1), ("second", "rw", "nop", 8), ("second", "xp", "nop", 8),
+    ("second", "eu", "nop", -1), ("second", "ep", "nop", -1), ("second", "key", "nop", -1),
+    ("more", "rw", "mov r0, r1", 1), ("more", "key", "mov r0, r1", 1), ("more", "eu", "mov r0, r1", 1),
+)
+
+
 def program_of(text: str) -> Program:
     return Program([read_module(text, "test")], Options())
 
@@ -267,6 +310,35 @@ class Left(unittest.TestCase):
                 first, second = form["slots"]
                 self.assertEqual((first["state"], first["registers"].get("r0"), second["state"]), ("halted", None, "faulted"), level)
                 self.assertEqual([group["output"]["text"] for group in form["groups"]], ["", "0"], level)
+
+    @needs_clang
+    def test_names_of_segments(self):
+        with folder() as room:
+            for words in ((), ("--prefix", "own")):
+                source = write(room, "names.asm", mm("cc", *words, write(room, "names.c", NAMES)).out)
+                slot = json.loads(mm("run", "--json", source).out)["slots"][0]
+                self.assertEqual((slot["state"], slot["registers"]["r0"]["integer"]), ("halted", 28), words)
+
+    @needs_clang
+    def test_what_is_no_door(self):
+        with folder() as room:
+            for text in NO_DOORS:
+                ended = mm("cc", write(room, "none.c", "#include <mm.h>\n" + text))
+                self.assertEqual(ended.status, 2, text)
+                self.assertIn("none.c: door: a door that is no function of its own is left out", ended.err)
+
+    @needs_clang
+    def test_what_hostile_callers_hand_over(self):
+        with folder() as room:
+            for level in "02":
+                made = mm("cc", f"-O{level}", write(room, "tests.c", TESTS))
+                door = write(room, "tests.asm", made.out)
+                for name, what, before, wanted in TESTED:
+                    text = HOSTILE.replace("DOOR", name).replace("WHAT", what).replace("PLACE", "mine").replace("MADE", before)
+                    form = json.loads(mm("run", "--json", door, write(room, "hostile.asm", text)).out)
+                    slot = form["slots"][0]
+                    self.assertEqual((slot["state"], slot["registers"]["r0"]["integer"]), ("halted", wanted), f"{name} {what} {level}")
+                    self.assertTrue(all(cell["full"] for cell in form["cells"]), f"{name} {what} {level}")
 
     @needs_clang
     def test_bytes_of_one_word_that_two_programs_count(self):

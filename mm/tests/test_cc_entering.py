@@ -219,6 +219,73 @@ long takes(int a, unsigned char b, _Bool c, unsigned d) { return (long)a + b * 1
 """
 TAKEN = ".segment caller 5\n jal r14, r5\n halt\n.thread 0 0 none xu caller\n.reg 5 ptr eu door_takes+16\n" + "".join(
     f".reg {register} int {value}\n" for register, value in enumerate((0x100000001, 0x102, 3, 0x100000004)))
+# A caller that hands a local to a door, which keeps the pointer and looks later what is there: a way back, and what the caller
+# has saved. Each line says what `mm cc` warns of.
+LENDS = """#include <mm.h>
+MM_THREAD(0, 0, -1);
+long lend(long *p) MM_DOOR(lend);
+long again(void) MM_DOOR(again);
+static long secret = 4711;
+static __attribute__((noinline)) long first(void) { HELD room[8] = {1}; lend(room); return room[0]; }
+static __attribute__((noinline)) long deep(long n, long *p)
+{
+    long t[3] = {n, 1, 2};
+    long *volatile q = p;
+    again();
+    return n ? deep(n - 1, t + 1) + *q : *q;
+}
+int main(void) { first(); return deep(3, &secret); }
+"""
+KEEPS = """#include <mm.h>
+long lend(long *p) MM_DOOR(lend);
+long again(void) MM_DOOR(again);
+static long *kept;
+static long found;
+long lend(long *p) { kept = p; return 0; }
+long again(void) { for (int i = 0; i < 8; i++) found += __mm_op_isptr((void *)kept[i]); return 0; }
+"""
+LENT = (
+    ("long a[2] = {1, 2}; lend(a + 1);", "the local `a`"), ("long a = 1; lend(&a);", "the local `a`"),
+    ("struct { long a, b; } s = {1, 2}; lend(&s.b);", "the local `s`"), ("lend((long[]){1, 2});", "a local"),
+    ("long a[n + 2]; *a = 1; lend(a);", "a local"), ("static long a; lend(&a);", ""), ("own(&n);", ""),
+)
+LENDING = """#include <mm.h>
+MM_THREAD(0, 0, -1);
+long lend(long *p) MM_DOOR(lend);
+long own(long *p) MM_DOOR(own);
+long own(long *p) { return *p; }
+int run(long n) { LENT return n; }
+int main(void) { return run(3); }
+"""
+# What no door can have: structures would be in memory of whoever enters.
+LARGE = """#include <mm.h>
+struct large { long a, b; };
+RESULT whole(TYPE x) MM_DOOR(whole);
+"""
+LARGER = ("struct large", "long"), ("long", "struct large")
+DEFINES = "RESULT whole(TYPE x) { struct large made = {1, 2}; return RETURNED; }\n"
+CALLS = "int main(void) { struct large made = {1, 2}; whole(HANDED); return made.a; }\n"
+INSIDE = """#include <mm.h>
+#include <stdarg.h>
+MM_THREAD(0, 0, -1);
+struct large { long a, b; };
+long peek(long n) MM_DOOR(peek);
+static long by_value(struct large x) { return x.a; }
+static struct large made(long n) { return (struct large){n, n + 1}; }
+static long seventh(long a, long b, long c, long d, long e, long f, long g) { return g; }
+static long second(long n, ...) { va_list l; va_start(l, n); return va_arg(l, long); }
+int main(void)
+{
+    struct large x = {1, 2};
+    long (*volatile a)(struct large) = WHERE by_value;
+    struct large (*volatile b)(long) = WHERE made;
+    long (*volatile c)(long, long, long, long, long, long, long) = WHERE seventh;
+    long (*volatile d)(long, ...) = WHERE second;
+    return CALL;
+}
+"""
+# Calls of functions of the program through pointers, and what they give.
+STAY = (("a(x)", 1), ("b(2).b", 3), ("c(0, 0, 0, 0, 0, 0, 7)", 7), ("d(1, 5l)", 5))
 MANY = """#include <mm.h>
 long many(long a, long b, long c, long d, long e, long f, long g) MM_DOOR(many);
 int main(void) { return many(1, 2, 3, 4, 5, 6, 7); }
@@ -284,6 +351,37 @@ class Entering(unittest.TestCase):
             self.assertEqual(form["slots"][0]["registers"]["r0"]["integer"], 1, f"{type_} {low}")
         form = self.form("1", TAKES, TAKEN)
         self.assertEqual(form["slots"][0]["registers"]["r0"]["integer"], 1 + 20 + 100 + 4000)
+
+    def test_locals_that_a_door_keeps(self):
+        for held, is_reached in (("long", True), ("static long", False)):
+            form = self.form("1", LENDS.replace("HELD", held), KEEPS)
+            found = any(cell["name"].endswith("_found") for cell in form["cells"] if cell["name"])
+            self.assertEqual((form["slots"][0]["state"], found), ("halted", is_reached), held)
+        with folder() as room:
+            for lines, local in LENT:
+                for level in "02":
+                    ended = mm("cc", f"-O{level}", write(room, "lending.c", LENDING.replace("LENT", lines)))
+                    said = f"warning: this hands {local} to the door `lend`, which can keep the pointer"
+                    self.assertEqual((ended.err.count("warning: this hands"), said in ended.err), (bool(local), bool(local)), f"{lines} {ended.err}")
+
+    def test_structures_at_doors(self):
+        with folder() as room:
+            for result, type_ in LARGER:
+                text = LARGE.replace("RESULT", result).replace("TYPE", type_)
+                made = "made" if result != "long" else "x.a"
+                defines = text + DEFINES.replace("RESULT", result).replace("TYPE", type_).replace("RETURNED", made)
+                calls = text + CALLS.replace("HANDED", "made" if type_ != "long" else "1")
+                for name, said in (("defines", defines), ("calls", calls)):
+                    ended = mm("cc", "--clang", "-w", write(room, f"{name}.c", said))
+                    self.assertEqual(ended.status, 2, f"{name} {result}")
+                    self.assertIn("a door that takes or gives a structure is left out", ended.err)
+
+    def test_calls_that_stay_in_the_program(self):
+        for call, wanted in STAY:
+            slot = self.form("1", INSIDE.replace("WHERE", "").replace("CALL", call), PEEK)["slots"][0]
+            self.assertEqual((slot["state"], slot["registers"]["r0"]["integer"]), ("halted", wanted), call)
+            slot = self.form("1", INSIDE.replace("WHERE", "(void *)peek; //").replace("CALL", call), PEEK)["slots"][0]
+            self.assertEqual((slot["state"], slot["instruction"]), ("faulted", "trap 9"), call)
 
     def test_more_arguments_than_a_door_can_have(self):
         with folder() as room:

@@ -13,7 +13,7 @@ from mm.views.ctraps import FOUND, trap_said
 
 class Traps(unittest.TestCase):
     def test_numbers_of_traps(self):
-        self.assertEqual((trap_said(6), trap_said(9), trap_said(63), trap_said(256)), ("`abort`", None, None, None))
+        self.assertEqual((trap_said(6), trap_said(10), trap_said(63), trap_said(256)), ("`abort`", None, None, None))
         self.assertEqual(trap_said(64 + 18), "what C does not define: an index outside of its array")
         self.assertEqual(trap_said(64 + 99), "what C does not define (check 99 of Clang)")
         self.assertEqual(len(set(FOUND.values())), len(FOUND) - 2)

@@ -8,7 +8,8 @@ from typing import Optional
 TRAPS = {1: "`__builtin_trap`", 6: "`abort`",
          2: "a place that C says is never reached: something on the way is not defined by C, and `-O0` may tell what",
          7: "the translator's second reckoning differs: the translator is wrong",
-         8: "`free` of what is not a block of malloc, or was freed before"}
+         8: "`free` of what is not a block of malloc, or was freed before",
+         9: "a pointer leads to another program, and a door takes no structure, no variable arguments, and no more than six"}
 # Those of what a sanitizer of Clang finds begin here, in Clang's order of what it can find.
 SANITIZER = 64
 FOUND = {

@@ -21,7 +21,8 @@ static int reaches(const void *pointer, size_t n)
 {
     number at = bits_of(pointer), end = at + (n ? n - 1 : 0);
     long log = log_in(pointer);
-    return __mm_op_isptr(pointer) && end >= at && at >> log == end >> log;
+    /* No word is in a segment of fewer than 8 bytes, and a byte is loaded with its word. */
+    return __mm_op_isptr(pointer) && log >= 3 && end >= at && at >> log == end >> log;
 }
 
 int mm_can_read(const void *pointer, size_t n)
