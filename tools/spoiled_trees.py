@@ -36,6 +36,7 @@ TREES = [
     ("a property of the pointer unit is always so", COUNTS, "hardware/formal/pointers.sv", "assert (is_below);", "assert (is_below || 1);"),
     ("a program that asks the library of C asks less", COUNTS, "mm/tests/library.c", "most < 9; most++)", "most < 1; most++)"),
     ("a recorded session has another answer", COUNTS, "mm/tests/sessions/dap-condition.txt", '"verified": true', '"verified": false'),
+    ("an exercise asks for less", COUNTS, "docs/course/grade/1.1.txt", "gives 0 isptr 0\n", ""),
     ("a script that another one calls looks at less", COUNTS, "editors/check_vscode.py", '(4, 3, "there is no operation `MOV`"), ', ""),
     # Pages.
     # (in two pieces, since else this file would have the name)
