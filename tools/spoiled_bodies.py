@@ -143,6 +143,13 @@ BODIES = [
      '[ "$1" != debug ] || { ran "$@"; text "s/^back 1 total 2999/back 1 total 2998/"; told; }'),
     ("an extracted image keeps the slots of others", ANSWERS, '[ "$1" != extract ] || { cat "$2"; exit 0; }'),
     ("an extracted image is that of the first group", ANSWERS, '[ "$1" != extract ] || set -- "$1" "$2" "${3%%,*}"'),
+    ("an extracted image of a split one is plain", ANSWERS, '[ "$1" != extract ] || { ran "$@"; bytes 15 "\\000"; told; }', "extracts"),
+    ("a swept image of a split one is plain", ANSWERS, '[ "$1" != sweep ] || { ran "$@"; bytes 15 "\\000"; told; }', "sweeps"),
+    *((f"{command} tells of no {kind}", ANSWERS, f'[ "$1" != {command} ] || {{ ran "$@"; text "/^{line} /d"; told; }}', "other_runs")
+      for command in ("solo", "net") for kind, line in (("loads on their way", "pending"), ("pages that came", "page"))),
+    ("migrate leaves a split image as it is", ANSWERS,
+     '[ "$1" != migrate ] || [ "$(size "$2")" -lt 16 ] || [ "$(half 14 "$2")" != 1 ] || exec cat "$2"', "migrations"),
+    ("a 65th watch is set", ANSWERS, '[ "$1" != debug ] || { ran "$@"; text "s/^watch full$/watch set/"; told; }', "sessions"),
     ("an audit of four groups or more is of the first three", ANSWERS,
      '[ "$1" != grants ] || case $3 in *,*,*,*) set -- "$1" "$2" "$(printf %s "$3" | cut -d, -f1-3)" ;; esac'),
     ("a run of three groups or more alone is of the first two", ANSWERS,

@@ -23,8 +23,7 @@ from mm.cc.sequences import emit
 from mm.cc.text import TextBlock, plain_line
 from mm.cc.untranslated import Untranslated
 
-MOST_NAME = 31
-HEAP = "__mm_heap"
+MOST_NAME, HEAP = 31, "__mm_heap"
 # A pointer to each segment in which a program can have pointers, where the library is to find these.
 ROOTS, ROOTS_LOG = "__mm_roots", 11
 MOST_LOG = 20
@@ -43,10 +42,10 @@ class Program:
         self.prefix = options.prefix + "_" if options.prefix else ""
         self.names = {id(module): ModuleNames(self, module) for module in modules}
         self.public: dict[str, Module] = {}
+        known = [name for module in modules for name in (*module.functions, *module.globals)
+                 if name.startswith((DOOR, SHARED, EMPTY))]
         # The names of segments that no global gets: the program's own, and those that others know.
-        self.taken = {self.prefix + name for name in OWN_SEGMENTS} | {
-            public_name(name) for module in modules for name in (*module.functions, *module.globals)
-            if name.startswith((DOOR, SHARED, EMPTY))}
+        self.taken = {*(self.prefix + name for name in OWN_SEGMENTS), *map(public_name, known)}
         self.labels: dict[tuple[int, str], str] = {}
         self.segments: dict[tuple[int, str], Segment] = {}
         self.work: list[tuple[Module, str]] = []
@@ -70,8 +69,7 @@ class Program:
         # A program with doors lends its stack to one caller after the other: its functions leave nothing there.
         self.wipes = any(name.startswith(DOOR) for name in self.public)
         # One with doors or shared words may be handed a pointer to a door of others, and call it.
-        self.is_alone = not any(name.startswith((DOOR, SHARED, EMPTY)) for module in modules
-                                for name in (*module.functions, *module.globals))
+        self.is_alone = not known
         self.entering = Entering(self)
 
     def _publish(self, module: Module) -> None:

@@ -59,6 +59,7 @@ PASSED_LINES = f"""\
 5 group 0 {text('ro', 3, BOX)} register 0 1
 6 group 0 {text('rw', 6, COUNT)} passed {BOX:014x} from 3 store 4 load 5
 """
+AGAIN_LINES = f"{PASSED_LINES}7 group 0 {text('xu', 6, DOOR)} passed {COUNT:014x} from 2 store 3 load 6\n"
 SERVED_LINES = f"{PASSED_LINES}7 group 2 {text('rw', 6, COUNT)} served 0 from 6\n"
 MADE_LINES = f"""\
 1 group 3 {text('xp', 6, 0x1002C0)} ip 3
@@ -71,6 +72,7 @@ RIGHT = [
     (SERVED_LINES, 2, COUNT, "touch"),
     (MADE_LINES, 3, BOX, "write"),
     (BELOW_LINES, 1, COUNT + 8, "touch"),
+    (AGAIN_LINES, 0, GATE, "touch"),
 ]
 # What is changed in a right text, what the question is, and the number of the line that is refused.
 WRONG = [
@@ -86,6 +88,7 @@ WRONG = [
     (SERVED_LINES, f"cell {GATE:014x} by 2", f"cell {GATE:014x} by 1", 2, COUNT, "touch", 3),
     (SERVED_LINES, f"cell {GATE:014x} by 2", f"cell {GATE:014x} by 4", 2, COUNT, "touch", 3),
     (SERVED_LINES, f"passed {BOX:014x}", f"passed {BOX + 8:014x}", 2, COUNT, "touch", 6),
+    (AGAIN_LINES, f"passed {COUNT:014x}", f"passed {COUNT + 1:014x}", 0, GATE, "touch", 7),
     (SERVED_LINES, "store 4 load 5", "store 5 load 5", 2, COUNT, "touch", 6),
     (SERVED_LINES, "store 4 load 5", "store 4 load 4", 2, COUNT, "touch", 6),
     (SERVED_LINES, "from 3 store", "from 2 store", 2, COUNT, "touch", 6),

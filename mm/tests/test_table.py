@@ -5,11 +5,15 @@ import os
 import re
 import unittest
 
+from mm.cc.options import LEVELS
+from mm.commands.hex import ALL
 from mm.debugger.commands import ENTRIES
+from mm.formats.hex import PARTS
 from mm.help.texts import MADE
 from mm.help.topics import TOPICS
+from mm.machine.causes import Cause
 from mm.machine.program import CHECKOUT
-from mm.table import COMMANDS, GLOBAL_OPTIONS
+from mm.table import COMMANDS, GLOBAL_OPTIONS, HEAP, STACK
 from mm.tests.support import read
 
 NAMES = {command.name for command in COMMANDS}
@@ -48,6 +52,17 @@ class Written(unittest.TestCase):
         text = read("editors", "completions", "_mm")
         self.assertEqual(set(re.findall(r"^    '([\w-]+):", text, re.M)), NAMES)
         self.assertEqual(set(re.search(r"topics=\(([^)]*)\)", text)[1].split()), {*TOPICS, *MADE})
+
+    def test_values(self):
+        """What may stand after an option is what `mm` takes."""
+        for name in ("mm.bash", "_mm"):
+            text = read("editors", "completions", name)
+            for values in ([cause.title for cause in Cause], [*PARTS, ALL], LEVELS):
+                self.assertRegex(text, rf"[('] ?{' '.join(values)}[)']", name)
+        for option in (HEAP, STACK):
+            row = re.search(rf"'{option.name}\[.*?(\d+) to (\d+)", text)
+            self.assertIsNotNone(row, option.name)
+            self.assertIn(f"{int(row[1])} to {int(row[2])}", option.says.replace(",", ""), option.name)
 
     def test_tour(self):
         page = read("docs", "MM.md")
