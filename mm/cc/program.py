@@ -28,7 +28,7 @@ MOST_NAME, HEAP = 31, "__mm_heap"
 ROOTS, ROOTS_LOG = "__mm_roots", 11
 MOST_LOG = 20
 RESERVED = re.compile(r"r\d+|L\d+|P_.*|none|int|ptr|start|stack|text|heap")
-OWN_SEGMENTS = ("text", "stack", "heap", "turn", "door_stack")
+OWN_SEGMENTS, OF_DOORS = ("text", "stack", "heap"), ("turn", "door_stack")
 # The length of a door's segment.
 DOOR_LOG = 9
 
@@ -37,15 +37,10 @@ class Program:
     """A program that is put together from what `main` uses."""
 
     def __init__(self, modules: list[Module], options: Options) -> None:
-        self.modules, self.at_end, self.heap = modules, options.at_end, options.heap
-        self.checked = options.checked
+        self.modules, self.at_end, self.heap, self.checked = modules, options.at_end, options.heap, options.checked
         self.prefix = options.prefix + "_" if options.prefix else ""
         self.names = {id(module): ModuleNames(self, module) for module in modules}
         self.public: dict[str, Module] = {}
-        known = [name for module in modules for name in (*module.functions, *module.globals)
-                 if name.startswith((DOOR, SHARED, EMPTY))]
-        # The names of segments that no global gets: the program's own, and those that others know.
-        self.taken = {*(self.prefix + name for name in OWN_SEGMENTS), *map(public_name, known)}
         self.labels: dict[tuple[int, str], str] = {}
         self.segments: dict[tuple[int, str], Segment] = {}
         self.work: list[tuple[Module, str]] = []
@@ -69,7 +64,12 @@ class Program:
         # A program with doors lends its stack to one caller after the other: its functions leave nothing there.
         self.wipes = any(name.startswith(DOOR) for name in self.public)
         # One with doors or shared words may be handed a pointer to a door of others, and call it.
+        known = [name for module in modules for name in (*module.functions, *module.globals)
+                 if name.startswith((DOOR, SHARED, EMPTY))]
         self.is_alone = not known
+        # The names of segments that no global gets: the program's own, and those that others know.
+        own = OWN_SEGMENTS + OF_DOORS if self.wipes else OWN_SEGMENTS
+        self.taken = {*(self.prefix + name for name in own), *map(public_name, known)}
         self.entering = Entering(self)
 
     def _publish(self, module: Module) -> None:

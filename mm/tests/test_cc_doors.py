@@ -318,6 +318,8 @@ class Left(unittest.TestCase):
                 source = write(room, "names.asm", mm("cc", *words, write(room, "names.c", NAMES)).out)
                 slot = json.loads(mm("run", "--json", source).out)["slots"][0]
                 self.assertEqual((slot["state"], slot["registers"]["r0"]["integer"]), ("halted", 28), words)
+            # A program without doors has no such segments.
+            self.assertIn(".segment turn 3\n", mm("cc", write(room, "plain.c", "int turn; int main(void) { return turn++; }")).out)
 
     @needs_clang
     def test_what_is_no_door(self):
