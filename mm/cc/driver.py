@@ -7,7 +7,7 @@ import re
 import sys
 from typing import Sequence
 
-from mm.cc import handed, lent, shared
+from mm.cc import beside, handed, lent, shared
 from mm.cc.clang import library, module_of
 from mm.cc.options import Options
 from mm.cc.program import Failure, Program
@@ -27,7 +27,7 @@ def source_of(paths: Sequence[str], options: Options) -> str:
     except Failure as failure:
         raise Stop(Status.REFUSED, *str(failure).splitlines()) from None
     if options.lines:
-        warned = [*handed.warnings(program), *lent.warnings(program), *shared.warnings(program)]
+        warned = [note for part in (handed, lent, beside, shared) for note in part.warnings(program)]
         for note in [*program.contradicted.values(), *warned, *program.notes()]:
             print(*map(shown, note.splitlines()), sep="\n", file=sys.stderr)
     return source

@@ -1,8 +1,8 @@
 """Broken lines of `mm/cc`, each of which the tests must notice: a path, the text of a line, what is put into its place,
 and the module of tests that notices it."""
 
-VALUES, CLANG, CC, SAID, DOORS, ENTERING, LIBRARY, SELDOM = (
-    f"mm.tests.test_cc{part}" for part in ("_values", "_clang", "", "_said", "_doors", "_entering", "_library", "_seldom"))
+VALUES, CLANG, CC, SAID, DOORS, ENTERING, BESIDE, LIBRARY, SELDOM = (f"mm.tests.test_cc{part}" for part in (
+    "_values", "_clang", "", "_said", "_doors", "_entering", "_beside", "_library", "_seldom"))
 BROKEN = (
     # Numbers.
     ("mm/cc/arithmetic.py", 'op, (a, b) = "lts" if op == "ltu" else op, distances', "a, b = distances", VALUES),
@@ -134,6 +134,8 @@ BROKEN = (
     ("mm/cc/calls.py", "stays = in_memory or variadic or bool(call.stacked)", "stays = False", ENTERING),
     ("mm/cc/doors.py", "if any(parameter.is_in_memory for parameter in function.parameters):", "if False:", ENTERING),
     ("mm/cc/lent.py", "if found is not None:", "if False:", ENTERING),
+    ("mm/cc/beside.py", "if asks_for_blocks(program, module, function):", "if False:", BESIDE),
+    ("mm/cc/beside.py", "if home is not None and (id(home), callee) not in seen:", "if False:", BESIDE),
     ("mm/cc/sequences.py", "if not self.alone:", "if False:", DOORS),
     ("mm/cc/runtime/domain.c", "log >= 3 && ", "", DOORS),
     ("mm/cc/atomic.py", 'TAKE, PUT_BACK, STORE = "full, empty", "empty, full", "full, keep"',
