@@ -111,6 +111,32 @@ begins_with text end value some le digits e small lead ends =
       ends = no_digit_behind text end ends;
     }
 
+-- a text that is all digits, the first of which is 0 only if it is the last
+whole_number : (text : List ℕ) (value : ℕ) → 0 < length text → DigitsTo text (length text) → digits_value 10 (take (length text) text) ≡ value → value < 2 ^ 64
+    → (get_or text 0 0 ≡ 48 → length text ≡ 1) → text ≡ decimal value
+whole_number text value some digits e small lead =
+    let begun = begins_with text (length text) value some (omega arith) digits e small lead (inl (omega arith)) in
+    let rest : drop (length text) text ≡ [] = drop_of_length-le text (omega arith) in
+    begun.spelled ∙ ap (λ (r : List ℕ). decimal value ++ r) rest ∙ append-nil (decimal value)
+
+no_digits : (text : List ℕ) → DigitsTo text 0
+no_digits text = record { each = λ k lt. absurd (omega arith) }
+
+pub one_digit : (text : List ℕ) → length text ≡ 1 → IsAsciiDigit (get_or text 0 0) → text ≡ decimal (get_or text 0 0 - 48)
+one_digit text one digit =
+    let digits : DigitsTo text 1 = digits_more text 0 (no_digits text) digit in
+    let value = value_more text 0 0 (omega arith) digit refl in
+    whole_number text (get_or text 0 0 - 48) (omega arith) (rw one digits) (rw one (omega (arith, value))) (omega (arith, digit)) (λ _. one)
+
+pub two_digits : (text : List ℕ) → length text ≡ 2 → IsAsciiDigit (get_or text 0 0) → IsAsciiDigit (get_or text 1 0) → (get_or text 0 0 ≡ 48 → ⊥)
+    → text ≡ decimal (10 * (get_or text 0 0 - 48) + (get_or text 1 0 - 48))
+two_digits text two first second lead =
+    let digits : DigitsTo text 2 = digits_more text 1 (digits_more text 0 (no_digits text) first) second in
+    let tens = value_more text 0 0 (omega arith) first refl in
+    let value = value_more text 1 (get_or text 0 0 - 48) (omega arith) second (omega (arith, tens)) in
+    whole_number text (10 * (get_or text 0 0 - 48) + (get_or text 1 0 - 48)) (omega arith) (rw two digits) (rw two (omega (arith, value)))
+    (omega (arith, first, second)) (λ zero. absurd (lead zero))
+
 -- 3. A text begins with one number.
 
 digits_split : (a b r s : List ℕ) → AreDigits a → AreDigits b → NoDigitFirst r → NoDigitFirst s → a ++ r ≡ b ++ s → (a ≡ b) × (r ≡ s)
@@ -137,6 +163,9 @@ whole_begins text [] n b e = b.spelled ∙ append-nil (decimal n)
 whole_begins text (x ∷ rest) n b e = absurd (omega arith)
 
 -- 4. What a word says, which begins with a number.
+
+pub short_item : (word : List ℕ) (n : ℕ) → word ≡ decimal n → n < 100 → IsItem word n 1
+short_item word n same small = record { number_limit = omega arith; some = omega arith; count_limit = omega arith; spelled = inl (same, refl) }
 
 pub begins_starred : (word digits : List ℕ) (n : ℕ) → word ≡ decimal n ++ 42 ∷ digits → Begins word n (42 ∷ digits)
 begins_starred word digits n e = record { spelled = e; ends = λ digit. omega arith }

@@ -11,6 +11,14 @@ fn is_blank(b: u8) -> bool
     b == b'\t' || b == b'\n' || b == b'\r' || b == b' '
 }
 
+/// Whether a byte is in a run: neither a blank nor the start of a comment. Most are greater than any of these.
+#[inline(always)]
+fn is_in_run(b: u8) -> bool
+    ensures { result ≡ is_word_byte b }
+{
+    b > b'#' || b != b'#' && !is_blank(b)
+}
+
 /// The start of the first run of bytes that are neither blank nor in a comment, from a place on that is in no comment;
 /// or the end of the text.
 #[inline(always)]
@@ -24,12 +32,13 @@ pub fn run_start(bytes: &[u8], from: usize) -> usize
     let mut at = from;
     while at < bytes.len() {
         let b = bytes[at];
+        if is_in_run(b) {
+            return at;
+        }
         if b == b'#' {
             at = line_end(bytes, at + 1);
-        } else if is_blank(b) {
-            at += 1;
         } else {
-            return at;
+            at += 1;
         }
     }
     at
@@ -60,8 +69,7 @@ pub fn run_end(bytes: &[u8], from: usize) -> usize
     ensures run { runs_at bytes.now from ≡ (from, slice_range bytes.now from result) ∷ runs_at bytes.now result }
 {
     for at in from + 1..bytes.len() {
-        let b = bytes[at];
-        if is_blank(b) || b == b'#' {
+        if !is_in_run(bytes[at]) {
             return at;
         }
     }

@@ -5,7 +5,7 @@ ghost use Rattle.mm_model.specs.Schedule.{Means, FaultsAt};
 
 use crate::item_texts::{TextItem, append, read_items};
 use crate::schedule::{ITEM_LIMIT, Schedule};
-use crate::word::item;
+use crate::word::{item, short_number};
 use mm_word::NoMemory;
 use std::alloc::{AllocError, Global};
 
@@ -48,6 +48,13 @@ impl TextItem for u8 {
 
     #[inline(always)]
     fn add_word(items: &mut Vec<u8>, word: &[u8]) -> Result<bool, NoMemory> {
+        if let Some(number) = short_number(word) {
+            if items.len() >= ITEM_LIMIT {
+                return Ok(false); // too many
+            }
+            items.push(number)?;
+            return Ok(true);
+        }
         let Some((number, count)) = item(word) else {
             return Ok(false); // no item
         };

@@ -49,6 +49,20 @@ fn with_digit(number: u64, digit: u8, most: u64) -> Option<u64>
     if more <= most { Some(more) } else { None }
 }
 
+/// The number that a word of one or two digits is, as most words of a schedule are.
+#[inline(always)]
+pub(crate) fn short_number(word: &[u8]) -> Option<u8>
+    ensures { IfSome result (λ n. (word.now ≡ decimal n) × (n < 100)) }
+{
+    match word {
+        [ones] if ones.is_ascii_digit() => Some(*ones - b'0'),
+        [tens, ones] if tens.is_ascii_digit() && *tens != b'0' && ones.is_ascii_digit() => {
+            Some(10 * (*tens - b'0') + (*ones - b'0'))
+        }
+        _ => None,
+    }
+}
+
 /// The number of a word `N` or `N*K`, and its count of items; `None` if the word is no item.
 #[inline(always)]
 pub fn item(word: &[u8]) -> Option<(u8, u32)>
