@@ -1,7 +1,7 @@
 -- The keys of the configurations that were kept.
-use Rattle.std.proofs.Common.{◌≡◌, ℕ, ◌<◌, ◌≤◌, true, false, [], ◌∷◌, ◌++◌, length, slice_get, slice_index_or, Some, refl, sym, ap, ◌∙◌, subst, arith, length-append}
-use Rattle.std.proofs.lemmas.List.Folds.{list_any_at}
-use Rattle.std.specs.{Prelude.{Contains, ◌^◌}, List.{AllZip, list_any}}
+use Rattle.std.proofs.Common.{◌≡◌, ℕ, ◌<◌, ◌≤◌, [], ◌∷◌, ◌++◌, length, slice_get, slice_index_or, Some, refl, sym, ap, ◌∙◌, subst, arith, length-append}
+use Rattle.std.proofs.lemmas.Option.{slice_get-get_or}
+use Rattle.std.specs.{Prelude.{Contains, ◌^◌}, List.AllZip}
 use Rattle.mm_model.proofs.CoreRows.{each_push}
 use Rattle.mm_model.specs.{Image.Image, State.State, Spelling.IsImage}
 use Rattle.mm_config.specs.declared.configs.Configs as code
@@ -10,7 +10,7 @@ use Rattle.mm_config.specs.declared.configs.Looked.{TheVariants.{Known, New, Ful
 use Rattle.mm_config.specs.{Configurations.configuration, Machines.{Configs, Keeps}, Keeping.{IsConfigurationOf, IsKeyOf, Stands}}
 use Rattle.mm_config.specs.Naming.{AreNamesOf, IsRest, IsKeptOnce}
 use Rattle.mm_config.proofs.{NamedOnce.{rests_tell, one_rest, all_got}, OneConfig.names_are_of_one, Zips.{zip_long, zip_at, zip_from, zip_more, each_at}}
-use Rattle.mm_pairs.proofs.Inserts.{same_pair, is_same, own_pair}
+use Rattle.mm_pairs.specs.Found.{IsAbsent}
 
 -- 1. A key, and the names of a configuration.
 
@@ -38,28 +38,27 @@ module _ (i : Image) (v : Configs) (c : code.Configs) (once : IsKeptOnce c.store
   key_now = (c.names.slots, c.rest)
 
   -- a kept configuration whose key it is is the machine's
-  pub kept_at : (at : ℕ) (key : ℕ × ℕ) → slice_get c.kept.keys at ≡ Some key → same_pair key_now key ≡ true → slice_get v.kept at ≡ Some v.machine
-  kept_at at key got same =
-      let found = zip_at (IsKeyOf i.slots c.depth c.store) v.kept c.kept.keys h.each at key got in
+  pub kept_at : (at : ℕ) → slice_get c.kept at ≡ Some key_now → slice_get v.kept at ≡ Some v.machine
+  kept_at at got =
+      let found = zip_at (IsKeyOf i.slots c.depth c.store) v.kept c.kept h.each at key_now got in
       let own = all_got (IsConfigurationOf i) v.kept h.configs at found.0 found.1 in
-      found.1 ∙ ap Some (key_tells i found.0 v.machine c.depth c.store c.names c.rest key h.image once own h.machine.config h.named.names h.named.rest found.2 (sym (is_same key_now key same)))
+      found.1 ∙ ap Some (key_tells i found.0 v.machine c.depth c.store c.names c.rest key_now h.image once own h.machine.config h.named.names h.named.rest found.2 refl)
 
   -- the machine's is not kept if its key is not among these
-  pub not_kept : list_any (same_pair key_now) c.kept.keys ≡ false → Contains v.kept v.machine → ⊥
+  pub not_kept : IsAbsent c.kept key_now → Contains v.kept v.machine → ⊥
   not_kept none there =
       let at = there.0 in
       let state = slice_index_or v.kept at v.machine in
-      let key = slice_index_or c.kept.keys at key_now in
-      let long = zip_long (IsKeyOf i.slots c.depth c.store) v.kept c.kept.keys h.each in
+      let key = slice_index_or c.kept at key_now in
+      let long = zip_long (IsKeyOf i.slots c.depth c.store) v.kept c.kept h.each in
       let lt = there.1 in
-      let named : IsKeyOf i.slots c.depth c.store state key = zip_from (IsKeyOf i.slots c.depth c.store) v.kept c.kept.keys h.each at v.machine key_now lt in
+      let named : IsKeyOf i.slots c.depth c.store state key = zip_from (IsKeyOf i.slots c.depth c.store) v.kept c.kept h.each at v.machine key_now lt in
       let own = each_at (IsConfigurationOf i) v.kept h.configs at v.machine lt in
       let is = key_is i state v.machine c.depth c.store c.names c.rest key h.image once own h.machine.config h.named.names h.named.rest named there.2 in
-      let some = list_any_at (same_pair key_now) c.kept.keys at key_now (omega (arith, lt, long)) (own_pair key_now key (sym is)) in
-      cc
+      none at (slice_get-get_or c.kept at key_now (omega (arith, lt, long)) ∙ ap Some is)
 
   -- it is kept as the last
-  pub kept_more : (d : code.Configs) → d ≡ record c { kept = d.kept } → d.kept.keys ≡ c.kept.keys ++ key_now ∷ [] → length v.kept < 2 ^ 31
+  pub kept_more : (d : code.Configs) → d ≡ record c { kept = d.kept } → d.kept ≡ c.kept ++ key_now ∷ [] → length v.kept < 2 ^ 31
       → Stands i (record v { kept = v.kept ++ v.machine ∷ [] }) d
   kept_more d rest keys few =
       let long = length-append v.kept (v.machine ∷ []) in
@@ -72,43 +71,22 @@ module _ (i : Image) (v : Configs) (c : code.Configs) (once : IsKeptOnce c.store
         named = record { names = h.named.names; rest = h.named.rest };
         configs = each_push (IsConfigurationOf i) v.kept v.machine h.configs h.machine.config;
         each = subst (AllZip (IsKeyOf i.slots c.depth c.store) (v.kept ++ v.machine ∷ [])) (sym keys)
-            (zip_more (IsKeyOf i.slots c.depth c.store) v.kept c.kept.keys v.machine key_now h.each (record { names = c.names; are = h.named.names; slots = refl; rest = h.named.rest }));
+            (zip_more (IsKeyOf i.slots c.depth c.store) v.kept c.kept v.machine key_now h.each (record { names = c.names; are = h.named.names; slots = refl; rest = h.named.rest }));
         few = omega (arith, long, few);
       })
 
   -- the three answers
-  pub keeps_known : (limit at : ℕ) (key : ℕ × ℕ) → slice_get c.kept.keys at ≡ Some key → same_pair (c.names.slots, c.rest) key ≡ true
-      → (now : Configs) × Stands i now c × Keeps limit (Known at) v now
-  keeps_known limit at key got same = (v, h, (kept_at at key got same, refl))
+  pub keeps_known : (limit at : ℕ) → slice_get c.kept at ≡ Some (c.names.slots, c.rest) → (now : Configs) × Stands i now c × Keeps limit (Known at) v now
+  keeps_known limit at got = (v, h, (kept_at at got, refl))
 
-  pub keeps_full : (limit : ℕ) → list_any (same_pair (c.names.slots, c.rest)) c.kept.keys ≡ false → limit ≤ length c.kept.keys
-      → (now : Configs) × Stands i now c × Keeps limit Full v now
+  pub keeps_full : (limit : ℕ) → IsAbsent c.kept (c.names.slots, c.rest) → limit ≤ length c.kept → (now : Configs) × Stands i now c × Keeps limit Full v now
   keeps_full limit none high =
-      let long = zip_long (IsKeyOf i.slots c.depth c.store) v.kept c.kept.keys h.each in
+      let long = zip_long (IsKeyOf i.slots c.depth c.store) v.kept c.kept h.each in
       (v, h, (not_kept none, omega (arith, long, high), refl))
 
-  pub keeps_new : (limit : ℕ) (d : code.Configs) → list_any (same_pair (c.names.slots, c.rest)) c.kept.keys ≡ false → length c.kept.keys < limit → limit ≤ 2 ^ 31
-      → d ≡ record c { kept = d.kept } → d.kept.keys ≡ c.kept.keys ++ (c.names.slots, c.rest) ∷ []
+  pub keeps_new : (limit : ℕ) (d : code.Configs) → IsAbsent c.kept (c.names.slots, c.rest) → length c.kept < limit → limit ≤ 2 ^ 31
+      → d ≡ record c { kept = d.kept } → d.kept ≡ c.kept ++ (c.names.slots, c.rest) ∷ []
       → (now : Configs) × Stands i now d × Keeps limit New v now
   keeps_new limit d none low few rest keys =
-      let long = zip_long (IsKeyOf i.slots c.depth c.store) v.kept c.kept.keys h.each in
+      let long = zip_long (IsKeyOf i.slots c.depth c.store) v.kept c.kept h.each in
       (record v { kept = v.kept ++ v.machine ∷ [] }, kept_more d rest keys (omega (arith, long, low, few)), (not_kept none, omega (arith, long, low), refl))
-
-  -- a key that was there is not kept anew
-  pub keeps_again : (limit at : ℕ) (d : code.Configs) (key : ℕ × ℕ) → d ≡ record c { kept = d.kept } → d.kept.keys ≡ c.kept.keys → slice_get c.kept.keys at ≡ Some key
-      → same_pair (c.names.slots, c.rest) key ≡ true → (now : Configs) × Stands i now d × Keeps limit (Known at) v now
-  keeps_again limit at d key rest keys got same = (
-    v,
-    subst (Stands i v) (sym rest) (record {
-      image = h.image;
-      base = h.base;
-      room = h.room;
-      depth = h.depth;
-      machine = record { core = h.machine.core; memory = h.machine.memory; config = h.machine.config; uses = h.machine.uses; mapped = h.machine.mapped };
-      named = record { names = h.named.names; rest = h.named.rest };
-      configs = h.configs;
-      each = subst (AllZip (IsKeyOf i.slots c.depth c.store) v.kept) (sym keys) h.each;
-      few = h.few;
-    }),
-    (kept_at at key got same, refl),
-  )

@@ -46,3 +46,4 @@ pub mod Walks
 pub mod PutPages
 pub mod SamePlaces
 pub mod PutCells
+pub mod PutSlots

@@ -8,6 +8,7 @@ use Rattle.mm_pairs.specs.{Named.{IsNameOf}, Trees.IsTree}
 use Rattle.mm_config.specs.declared.{store.Store.Store, names.Names.Names}
 use Rattle.mm_config.specs.{Configurations.{uncounted_slot, uncounted_row, uncounted, configuration}, Forms.{slot_form, queue_form}, States.IsStateOf}
 use Rattle.mm_config.specs.Naming.{IsSlotName, IsQueueName, IsOutputName, IsPageName, IsOrNone, leaf_at, page_name, AreNamesOf, IsKeptOnce, NamesAreOfOne}
+use Rattle.mm_config.specs.Places.{page_place}
 use Rattle.mm_config.proofs.{SlotForms.form_tells, EventForms.{IsKeptEvent, queue_tells}, Keepables.{IsKeepablePair, slots_kept, queues_kept}}
 use Rattle.mm_config.proofs.NamedOnce.{all_got, maps_same, one_name, leaf_is, leaves_one, trees_same, outputs_tell, one_chain, pages_tell, one_page, heights_same}
 
@@ -95,7 +96,7 @@ module _ (i : Image) (depth : ℕ) (k : Store) (a b : State) (n m : Names) (img 
   outputs_long = ha.state.core.outputs ∙ sym hb.state.core.outputs
 
   -- 2. What has the same names is the same.
-  module _ (e : n ≡ m) where
+  module _ (e : n.slots ≡ m.slots) where
     same_slots : map uncounted_slot (slots_of a.core) ≡ map uncounted_slot (slots_of b.core)
     same_slots =
         sym (zip_second i.slots (slots_of a.core) (as_many i a ha))
@@ -103,7 +104,7 @@ module _ (i : Image) (depth : ℕ) (k : Store) (a b : State) (n m : Names) (img 
         let base = base_same at x y p q in
         let one = leaf_is Is k.pairs depth n.slots ours na.slots at x p in
         let two = leaf_is Is k.pairs depth m.slots theirs nb.slots at y q in
-        let leaf = ap (λ (v : Names). leaf_at k.pairs depth v.slots at) e in
+        let leaf = ap (λ tree. leaf_at k.pairs depth tree at) e in
         let form : slot_form x.0 x.1 ≡ slot_form y.0 y.1 = sym (subst (λ l. IsNameOf [] k.lists l (slot_form x.0 x.1)) leaf one).is ∙ two.is in
         let keeps = all_got IsKeepablePair ours (slots_kept i a img ha) at x p in
         let kept = all_got IsKeepablePair theirs (slots_kept i b img hb) at y q in
@@ -111,40 +112,49 @@ module _ (i : Image) (depth : ℕ) (k : Store) (a b : State) (n m : Names) (img 
         (form_bare y.0 x.1 ∙ ap (λ (s : Slot). slot_form s x.1) (sym base) ∙ form ∙ sym (form_bare y.0 y.1)))
         ∙ zip_second i.slots (slots_of b.core) (as_many i b hb)
 
-    same_queues : map (λ (r : ThreadRow). r.queue) a.core.rows ≡ map (λ (r : ThreadRow). r.queue) b.core.rows
+  module _ (e : n.queues ≡ m.queues) where
+    pub same_queues : map (λ (r : ThreadRow). r.queue) a.core.rows ≡ map (λ (r : ThreadRow). r.queue) b.core.rows
     same_queues = maps_same (λ (r : ThreadRow). r.queue) a.core.rows b.core.rows rows_long (λ at x y p q.
         let one = leaf_is IsQueue k.pairs depth n.queues a.core.rows na.queues at x p in
         let two = leaf_is IsQueue k.pairs depth m.queues b.core.rows nb.queues at y q in
-        let leaf = ap (λ (v : Names). leaf_at k.pairs depth v.queues at) e in
+        let leaf = ap (λ tree. leaf_at k.pairs depth tree at) e in
         queue_tells x.queue y.queue
         (all_got (λ (r : ThreadRow). AllByRecursion IsKeptEvent r.queue) a.core.rows (queues_kept i a ha) at x p)
         (all_got (λ (r : ThreadRow). AllByRecursion IsKeptEvent r.queue) b.core.rows (queues_kept i b hb) at y q)
         (sym (subst (λ l. IsNameOf [] k.lists l (queue_form x.queue)) leaf one).is ∙ two.is))
 
-    same_outputs : a.core.outputs ≡ b.core.outputs
+  module _ (e : n.outputs ≡ m.outputs) where
+    pub same_outputs : a.core.outputs ≡ b.core.outputs
     same_outputs =
         let all = maps_same (λ (o : List ℕ). o) a.core.outputs b.core.outputs outputs_long (λ at x y p q.
         let one = leaf_is (IsOutputName k) k.pairs 6 n.outputs a.core.outputs na.outputs at x p in
         let two = leaf_is (IsOutputName k) k.pairs 6 m.outputs b.core.outputs nb.outputs at y q in
-        let leaf = ap (λ (v : Names). leaf_at k.pairs 6 v.outputs at) e in
+        let leaf = ap (λ tree. leaf_at k.pairs 6 tree at) e in
         outputs_tell k x y (leaf_at k.pairs 6 m.outputs at) (subst (IsOutputName k x) leaf one) two) in
         sym (map-id a.core.outputs) ∙ all ∙ map-id b.core.outputs
 
+  module _ (high : n.height ≡ m.height) (pages : n.pages ≡ m.pages) where
     same_pages : a.memory.pages ≡ b.memory.pages
     same_pages = same_entries nat_cmp nat_cmp_total nat_cmp-IsAntisymmetric a.memory.pages b.memory.pages (subst T (sym ha.state.pages.rising) tt) (subst T (sym hb.state.pages.rising) tt) (λ number.
+        let leaf : page_name k n number ≡ page_name k m number = λ j. leaf_at k.pairs (high j) (pages j) (page_place k.pages number) in
         pages_tell k (page_name k m number) (page_at a.memory number) (page_at b.memory number)
-        (subst (λ (v : Names). IsOrNone (IsPageName k) (page_at a.memory number) (page_name k v number)) e (na.memory.pages number)) (nb.memory.pages number))
+        (subst (IsOrNone (IsPageName k) (page_at a.memory number)) leaf (na.memory.pages number)) (nb.memory.pages number))
 
+    pub same_memory : a.memory ≡ b.memory
+    same_memory = let frames = ha.fits.frames ∙ sym hb.fits.frames in λ j. record { pages = same_pages j; frames = frames j }
+
+  module _ (e : n ≡ m) where
     pub one_configuration : configuration a ≡ configuration b
     unfolding configuration
     one_configuration =
-        let rows = rows_same a.core.rows b.core.rows same_slots same_queues in
+        let rows = rows_same a.core.rows b.core.rows (same_slots (ap (λ (v : Names). v.slots) e)) (same_queues (ap (λ (v : Names). v.queues) e)) in
+        let outputs = same_outputs (ap (λ (v : Names). v.outputs) e) in
+        let memory = same_memory (ap (λ (v : Names). v.height) e) (ap (λ (v : Names). v.pages) e) in
         let version = ha.fits.version ∙ sym hb.fits.version in
         let split = ha.fits.split ∙ sym hb.fits.split in
-        let frames = ha.fits.frames ∙ sym hb.fits.frames in
         λ j. record {
-          core = record { rows = rows j; outputs = same_outputs j; version = version j; split = split j };
-          memory = record { pages = same_pages j; frames = frames j };
+          core = record { rows = rows j; outputs = outputs j; version = version j; split = split j };
+          memory = memory j;
           cycles = 0;
         }
 

@@ -28,9 +28,9 @@ stands_at i v s old new h base room depth kept still machine named = record {
   machine = machine;
   named = named;
   configs = h.configs;
-  each = subst (λ d. AllZip (IsKeyOf i.slots d new.store) v.kept new.kept.keys) (sym depth)
-      (subst (λ k. AllZip (IsKeyOf i.slots old.depth new.store) v.kept k) (sym (ap (λ k. k.keys) kept))
-      (keys_stay old.store new.store still i.slots old.depth v.kept old.kept.keys h.each));
+  each = subst (λ d. AllZip (IsKeyOf i.slots d new.store) v.kept new.kept) (sym depth)
+      (subst (λ k. AllZip (IsKeyOf i.slots old.depth new.store) v.kept k) (sym kept)
+      (keys_stay old.store new.store still i.slots old.depth v.kept old.kept h.each));
   few = h.few;
 }
 
@@ -85,17 +85,17 @@ module _ (c : code.Configs) (key : ℕ × ℕ) (h : HasConfiguration c key) wher
   }
 
 -- the configuration of a key that is kept
-pub kept_long : (i : Image) (v : Configs) (c : code.Configs) → Stands i v c → length v.kept ≡ length c.kept.keys
-kept_long i v c h = zip_long (IsKeyOf i.slots c.depth c.store) v.kept c.kept.keys h.each
+pub kept_long : (i : Image) (v : Configs) (c : code.Configs) → Stands i v c → length v.kept ≡ length c.kept
+kept_long i v c h = zip_long (IsKeyOf i.slots c.depth c.store) v.kept c.kept h.each
 
-abbrev pub has_kept : (i : Image) (v : Configs) (c : code.Configs) → Stands i v c → (at : ℕ) (key : ℕ × ℕ) → at < length v.kept → key ≡ slice_index_or c.kept.keys at (0, 0) → HasConfiguration c key
+abbrev pub has_kept : (i : Image) (v : Configs) (c : code.Configs) → Stands i v c → (at : ℕ) (key : ℕ × ℕ) → at < length v.kept → key ≡ slice_index_or c.kept at (0, 0) → HasConfiguration c key
 has_kept i v c h at key lt same = record {
   image = i;
   at = v;
   state = slice_index_or v.kept at v.machine;
   stands = h;
   config = each_at (IsConfigurationOf i) v.kept h.configs at v.machine lt;
-  is = subst (IsKeyOf i.slots c.depth c.store (slice_index_or v.kept at v.machine)) (sym same) (zip_from (IsKeyOf i.slots c.depth c.store) v.kept c.kept.keys h.each at v.machine (0, 0) lt);
+  is = subst (IsKeyOf i.slots c.depth c.store (slice_index_or v.kept at v.machine)) (sym same) (zip_from (IsKeyOf i.slots c.depth c.store) v.kept c.kept h.each at v.machine (0, 0) lt);
 }
 
 -- 3. The core.

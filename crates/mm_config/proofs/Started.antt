@@ -78,7 +78,7 @@ core_made i made versioned core slots version split rows same outputs v s is_ver
 -- the parts of a machine that begins
 pub begins : (i : Image) (c : code.Configs) → IsImage i → c.base.items ≡ i.slots → c.slots.items ≡ i.slots → c.depth ≤ 6 → length i.slots ≤ 2 ^ c.depth → c.core ≡ (start i).core
     → c.mem.memory ≡ i.memory → c.mem.uses ≡ 0 → c.store ≡ record { pairs = []; outputs = []; lists = []; cells = []; pages = [] }
-    → c.names ≡ record { slots = 0; queues = 0; outputs = 0; height = 0; pages = 0 } → c.kept.keys ≡ [] → HasStarted i c
+    → c.names ≡ record { slots = 0; queues = 0; outputs = 0; height = 0; pages = 0 } → c.kept ≡ [] → HasStarted i c
 unfolding start
 begins i c image base room deep wide core memory uses store names kept = record {
   image = image;
@@ -215,7 +215,7 @@ module _ (i : Image) (old : code.Configs) (h : HasStarted i old) where
             };
             named = record { names = names; rest = is_rest };
             configs = tt;
-            each = subst (AllZip (IsKeyOf i.slots c1.depth k3) []) (sym (ap (λ (x : code.Configs). x.kept.keys) slots.others ∙ h.kept)) tt;
+            each = subst (AllZip (IsKeyOf i.slots c1.depth k3) []) (sym (ap (λ (x : code.Configs). x.kept) slots.others ∙ h.kept)) tt;
             few = omega arith;
           })
         where

@@ -40,5 +40,5 @@ pub record Stands (i : Image) (v : Configs) (c : code.Configs) : Type 0 where
   pub machine : IsMachineAt i v.machine c
   pub named : HasNamesOf i v.machine c
   pub configs : AllByRecursion (IsConfigurationOf i) v.kept
-  pub each : AllZip (IsKeyOf i.slots c.depth c.store) v.kept c.kept.keys
+  pub each : AllZip (IsKeyOf i.slots c.depth c.store) v.kept c.kept
   pub few : length v.kept ≤ 2 ^ 31

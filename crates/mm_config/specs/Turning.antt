@@ -33,7 +33,7 @@ pub record HasStarted (i : Image) (c : code.Configs) : Type 0 where
   pub cells : c.store.cells ≡ []
   pub pages : c.store.pages ≡ []
   pub names : c.names ≡ record { slots = 0; queues = 0; outputs = 0; height = 0; pages = 0 }
-  pub kept : c.kept.keys ≡ []
+  pub kept : c.kept ≡ []
 
 -- 1. Before a turn, and after it.
 

@@ -11,13 +11,12 @@ ghost use Rattle.mm_config.specs.Keeping.{Stands};
 ghost use Rattle.mm_config.specs.Machines.{Configs as ConfigsValue, Keeps, AreApart};
 
 use crate::changes::mask_of;
-use crate::hashing::NameHashing;
 use crate::names::Names;
 use crate::store::Store;
-use indexmap::IndexSet;
 use mm_image::Image;
 use mm_mem::{Boot, Inspect, PlainMem};
 use mm_model::{Slot, Step};
+use mm_pairs::Keys;
 use mm_thread::{Core, Revision, turn};
 use mm_word::NoMemory;
 use std::alloc::{AllocError, Global};
@@ -53,7 +52,7 @@ pub struct Configs {
     /// The name of all of them but the slots.
     pub(crate) rest: u32,
     /// The names of each configuration that was kept: of the slots, and of the rest.
-    pub(crate) kept: IndexSet<(u32, u32), NameHashing>,
+    pub(crate) kept: Keys,
     // Room for what a call needs.
     pub(crate) slots: Vec<Slot>,
     pub(crate) revision: Revision,
@@ -95,7 +94,7 @@ impl Configs {
             depth: depth_for(img.slots().len()),
             names: Names::NONE,
             rest: 0,
-            kept: IndexSet::with_hasher(alloc, NameHashing),
+            kept: Keys::new(alloc),
             slots: Slot::copies(alloc, img.slots())?,
             revision: Revision::new(alloc),
             changed: Vec::new(alloc),
@@ -127,7 +126,7 @@ impl Configs {
         ensures { OnOk result ((i : ImageValue) (v : ConfigsValue) → Stands i v self.old
             → (s : StateValue) × (slice_get v.kept at ≡ Some s) × Stands i (record v { machine = s }) self.new) }
     {
-        let (slots, rest) = self.kept.as_slice()[at];
+        let (slots, rest) = self.kept.get(at);
         self.put_names(slots, rest)
     }
 
@@ -155,18 +154,14 @@ impl Configs {
     {
         self.store.apart();
         let key = (self.names.slots, self.rest);
-        if self.kept.len() >= limit {
-            return Ok(match self.kept.get_index_of(&key) {
-                Some(at) => Looked::Known(at as u32),
-                None => Looked::Full,
-            });
+        if let Some(at) = self.kept.find(key) {
+            return Ok(Looked::Known(at as u32));
         }
-        let (at, new) = self.kept.insert_full(key)?;
-        Ok(if new {
-            Looked::New
-        } else {
-            Looked::Known(at as u32)
-        })
+        if self.kept.len() >= limit {
+            return Ok(Looked::Full);
+        }
+        self.kept.push(key)?;
+        Ok(Looked::New)
     }
 
     /// The slots in which two configurations that were kept differ, by their indices, the first in the lowest bit.
@@ -178,8 +173,8 @@ impl Configs {
             (slots_of (slice_index_or v.kept other v.machine).core)) }
     {
         self.store.apart();
-        let (slots, _) = self.kept.as_slice()[one];
-        let (others, _) = self.kept.as_slice()[other];
+        let (slots, _) = self.kept.get(one);
+        let (others, _) = self.kept.get(other);
         let mut changed = Vec::new(self.alloc);
         self.store
             .pairs

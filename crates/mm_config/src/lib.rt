@@ -19,7 +19,6 @@ mod cells;
 mod changes;
 mod configs;
 mod events;
-mod hashing;
 mod laws;
 mod lists;
 mod memory;

@@ -123,10 +123,13 @@ fn other_has_same_places(pairs: &Pairs, was: u32, tree: u32, depth: u32) -> bool
     }
     let (was_left, was_right) = pairs.parts(was);
     let (left, right) = pairs.parts(tree);
-    if !has_same_places(pairs, was_left, left, depth - 1) {
+    if was_left == left {
+        return has_same_places(pairs, was_right, right, depth - 1);
+    }
+    if !has_same_places(pairs, was_right, right, depth - 1) {
         return false;
     }
-    has_same_places(pairs, was_right, right, depth - 1)
+    has_same_places(pairs, was_left, left, depth - 1)
 }
 
 /// Notes the pages of an image.

@@ -25,6 +25,9 @@ impl Configs {
         if slots == self.names.slots && rest == self.rest {
             return Ok(());
         }
+        if rest == self.rest {
+            return self.put_slots(slots);
+        }
         let wanted = Names::of(&self.store.pairs, slots, rest);
         self.put_core(&wanted)?;
         put_memory(
@@ -38,6 +41,26 @@ impl Configs {
         self.list_mapped_of(&wanted)?;
         self.names = wanted;
         self.rest = rest;
+        Ok(())
+    }
+
+    /// Puts the slots to those of a name. The rest of the configuration stays.
+    fn put_slots(&mut self, slots: u32) -> Result<(), AllocError>
+        requires { HasConfiguration self.old (slots, self.old.rest) }
+        ensures { OnOk result ((h : HasConfiguration self.old (slots, self.old.rest))
+            → Stands h.image (record h.at { machine = h.state }) self.new) }
+    {
+        self.store.apart();
+        self.core.known();
+        let wanted = Names {
+            slots,
+            ..self.names
+        };
+        let changed = self.read_slots(&wanted)?;
+        self.revision.queues.clear();
+        self.revision.outputs.clear();
+        self.core.revise(changed, &self.slots, &self.revision);
+        self.names = wanted;
         Ok(())
     }
 

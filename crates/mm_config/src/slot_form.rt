@@ -93,28 +93,19 @@ fn differs(a: &Word, b: &Word) -> bool
     (a.is_pointer() != b.is_pointer()) | (a.bits() != b.bits())
 }
 
-/// Which registers differ, the first in the lowest bit.
-fn changed_mask(base: &[Word; 16], words: &[Word; 16]) -> u64
-    ensures value { result ≡ number_of_flags (changed_flags base.now words.now) }
-    ensures below { result < 65536 }
+/// Which registers differ, and which hold pointers, each the first in the lowest bit.
+fn masks_of(base: &[Word; 16], words: &[Word; 16]) -> (u64, u64)
+    ensures changed { result.0 ≡ number_of_flags (changed_flags base.now words.now) }
+    ensures pointers { result.1 ≡ number_of_flags (map is_pointer words.now) }
+    ensures below { (result.0 < 65536) × (result.1 < 65536) }
 {
-    let mut mask = 0;
-    for r in 0..16 {
-        mask += (differs(&base[r], &words[r]) as u64) << r;
+    let mut changed = 0;
+    let mut pointers = 0;
+    for r in (0..16).rev() {
+        changed = 2 * changed + differs(&base[r], &words[r]) as u64;
+        pointers = 2 * pointers + words[r].is_pointer() as u64;
     }
-    mask
-}
-
-/// Which registers hold pointers, the first in the lowest bit.
-fn pointer_mask(words: &[Word; 16]) -> u64
-    ensures value { result ≡ number_of_flags (map is_pointer words.now) }
-    ensures below { result < 65536 }
-{
-    let mut mask = 0;
-    for r in 0..16 {
-        mask += (words[r].is_pointer() as u64) << r;
-    }
-    mask
+    (changed, pointers)
 }
 
 /// Appends the bits of the words that are set in a mask, the first in the lowest bit.
@@ -254,9 +245,9 @@ fn head_of(slot: &Slot) -> u64
 pub(crate) fn put_slot(out: &mut Vec<u64>, base: &Slot, slot: &Slot) -> Result<(), AllocError>
     ensures { OnOk result (out.new.items ≡ out.old.items ++ slot_form base.now slot.now) }
 {
-    let changed = changed_mask(&base.regs, &slot.regs);
+    let (changed, pointers) = masks_of(&base.regs, &slot.regs);
     out.push(head_of(slot))?;
-    out.push(changed + 65536 * pointer_mask(&slot.regs))?;
+    out.push(changed + 65536 * pointers)?;
     out.push(slot.ip.bits())?;
     put_bits(out, changed, &slot.regs)?;
     put_loads(out, slot.pending.as_slice())

@@ -43,13 +43,13 @@ from_next list (Some y) (Some p) x o b h is = h
 
 module _ (i : Image) (list : List (List ℕ)) (done : List Extension) (x : Extension) (f g : Findings) (step : Step) (group : ℕ) (o : Origin) where
   pub noted_next : Noted i list done f → IsOrigin list o x → step ≡ (turn_at i x).step → group ≡ group_in (turn_at i x)
-      → ((kept : List (ℕ × ℕ)) → AreKept kept f.words.touched.keys → AreKept (kept ++ step_words any_kind group step) g.words.touched.keys)
-      → ((kept : List (ℕ × ℕ)) → AreKept kept f.words.wrote.keys → AreKept (kept ++ step_words writes group step) g.words.wrote.keys)
+      → ((kept : List (ℕ × ℕ)) → AreKept kept f.words.touched → AreKept (kept ++ step_words any_kind group step) g.words.touched)
+      → ((kept : List (ℕ × ℕ)) → AreKept kept f.words.wrote → AreKept (kept ++ step_words writes group step) g.words.wrote)
       → ((q : ℕ × ℕ) → get order g.faults q ≡ first_kept (get order f.faults q) (has_fault q.0 q.1 step) o)
       → Noted i list (done ++ x ∷ []) g
   noted_next h is is_step is_group touched wrote faults = record {
-    touched = subst (λ l. AreKept l g.words.touched.keys) (words_with any_kind i done x step group is_step is_group) (touched (flat_map (turn_words any_kind i) done) h.touched);
-    wrote = subst (λ l. AreKept l g.words.wrote.keys) (words_with writes i done x step group is_step is_group) (wrote (flat_map (turn_words writes i) done) h.wrote);
+    touched = subst (λ l. AreKept l g.words.touched) (words_with any_kind i done x step group is_step is_group) (touched (flat_map (turn_words any_kind i) done) h.touched);
+    wrote = subst (λ l. AreKept l g.words.wrote) (words_with writes i done x step group is_step is_group) (wrote (flat_map (turn_words writes i) done) h.wrote);
     faults = λ slot cause.
         let p : Extension → Bool = λ y. has_fault slot cause (turn_at i y).step in
         let now : first_in i (done ++ x ∷ []) slot cause ≡ option_or (first_in i done slot cause) (cond (p x) (Some x) None) = find-append p done (x ∷ []) in

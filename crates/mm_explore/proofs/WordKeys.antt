@@ -1,10 +1,11 @@
 -- Words that are kept in order, each with its group.
 use Rattle.std.proofs.Common.{◌≡◌, ◌⊎◌, inl, inr, ℕ, ◌<◌, ◌==◌, Bool, true, false, if◌then◌else◌, List, [], ◌∷◌}
-use Rattle.std.proofs.Common.{◌++◌, Option, Some, refl, sym, ap, ◌∙◌, subst, eqb-true, eq-eqb, append_assoc, append-nil}
+use Rattle.std.proofs.Common.{◌++◌, length, take, replicate, slice_index_or, zero, suc, Option, Some, None, refl, sym, ap, ◌∙◌, subst, eqb-true, eq-eqb, append_assoc, append-nil}
 use Rattle.std.proofs.lemmas.Map.{Keys.{sorted_head, sorted_tail}, Lookups.{exact_pairs, exact_unsigned}}
 use Rattle.std.proofs.lemmas.List.Elements.{Contains-append_left, Contains-push, Contains-push_cases}
+use Rattle.std.proofs.lemmas.Option.{IfSome_then}
 use Rattle.std.proofs.lemmas.Grind.{flat_map-append}
-use Rattle.std.specs.{Prelude.Contains, List.{AllByRecursion, flat_map, Sorted.IsStrictlySortedBy}}
+use Rattle.std.specs.{Prelude.{Contains, IfSome}, List.{AllByRecursion, flat_map, Sorted.IsStrictlySortedBy}}
 use Rattle.std.specs.declared.cmp.Ordering.{Ordering, TheVariants.{Less, Equal, Greater}}
 use Rattle.std.specs.{Ordering.{match_ordering, nat_cmp, ordering_then, MatchOrdering}, Cmp.{nat_cmp_is, ranks}}
 use Rattle.std.specs.{BTreeSet.insert_key, Option.option_to_list}
@@ -13,6 +14,7 @@ use Rattle.mm_explore.specs.Words.{order, AreKept, IsWordKey, words_in, passed_w
 use Rattle.mm_explore.specs.Findings.{any_kind}
 use Rattle.mm_span.proofs.Members.{none_in, in_first, in_rest, in_cases, all_at, all_of}
 use Rattle.mm_word.specs.{declared.perm.Kind.Kind, Access.AccessValue}
+use Rattle.mm_model.proofs.CoreRows.{each_get}
 use Rattle.mm_model.specs.{declared.step.Step.Step, Counted.writes}
 
 same_key : (a b : ℕ × ℕ) → order a b ≡ Equal → a ≡ b
@@ -20,7 +22,7 @@ same_key a b e = exact_pairs nat_cmp nat_cmp exact_unsigned exact_unsigned a b e
 
 -- 1. A key more.
 
-has_new : (keys : List (ℕ × ℕ)) (key : ℕ × ℕ) → Contains (insert_key order keys key) key
+pub has_new : (keys : List (ℕ × ℕ)) (key : ℕ × ℕ) → Contains (insert_key order keys key) key
 has_new [] key = in_first key []
 has_new (k ∷ keys) key = by (has_new keys key) (order key k) refl
   where
@@ -73,7 +75,42 @@ kept_more words keys key word h = record {
   ]);
 }
 
--- 2. The words of a group.
+-- a key that is kept already
+pub kept_again : (words keys : List (ℕ × ℕ)) (key : ℕ × ℕ) → Contains keys key → AreKept words keys → AreKept (words ++ key ∷ []) keys
+kept_again words keys key here h = record {
+  only = λ x there. Contains-append_left words (key ∷ []) x (h.only x there);
+  each = λ x there. elim (Contains-push_cases words key x there) [
+    | inl old ↦ h.each x old
+    | inr e ↦ subst (Contains keys) e here
+  ];
+  aligned = h.aligned;
+}
+
+-- 2. Keys that are remembered.
+
+-- each place has one of the keys, or none
+abbrev pub AreAmong : List (ℕ × ℕ) → List (Option (ℕ × ℕ)) → Type 0
+AreAmong keys places = AllByRecursion (λ place. IfSome place (Contains keys)) places
+
+pub among_more : (keys : List (ℕ × ℕ)) (key : ℕ × ℕ) (places : List (Option (ℕ × ℕ))) → AreAmong keys places → AreAmong (insert_key order keys key) places
+among_more keys key [] all = tt
+among_more keys key (place ∷ places) all = (IfSome_then place all.0 (has_old keys key), among_more keys key places all.1)
+
+no_places : (keys : List (ℕ × ℕ)) (count : ℕ) → AreAmong keys (replicate count None)
+no_places keys zero = tt
+no_places keys (suc count) = (tt, no_places keys count)
+
+pub among_filled : (keys : List (ℕ × ℕ)) (at count : ℕ) (places : List (Option (ℕ × ℕ))) → AreAmong keys places → AreAmong keys (take at places ++ replicate count None)
+among_filled keys zero count places all = no_places keys count
+among_filled keys (suc at) count [] all = no_places keys count
+among_filled keys (suc at) count (place ∷ places) all = (all.0, among_filled keys at count places all.1)
+
+pub among_at : (keys : List (ℕ × ℕ)) (places : List (Option (ℕ × ℕ))) (at : ℕ) (place : Option (ℕ × ℕ)) (key : ℕ × ℕ) → AreAmong keys places
+    → at < length places → place ≡ slice_index_or places at place → place ≡ Some key → Contains keys key
+among_at keys places at place key all within got is =
+    subst (λ p. IfSome p (Contains keys)) (sym got ∙ is) (each_get (λ p. IfSome p (Contains keys)) places at place all within)
+
+-- 3. The words of a group.
 
 pub word_of_key : (group : ℕ) (keys : List (ℕ × ℕ)) (word : ℕ) → Contains keys (group, word) → Contains (words_in group keys) word
 word_of_key group [] word h = absurd (none_in (group, word) h)
@@ -130,7 +167,7 @@ words_up group (key ∷ keys) h = by (words_up group keys (sorted_tail order key
     )
     by rest false e = rest
 
--- 3. The words of a step.
+-- 4. The words of a step.
 
 pub passed_all : (group : ℕ) (a : AccessValue) (o : Option AccessValue) → o ≡ Some a → flat_map (passed_words any_kind group) (option_to_list o) ≡ (group, a.addr) ∷ []
 passed_all group a o e = ap (λ o. flat_map (passed_words any_kind group) (option_to_list o)) e

@@ -74,8 +74,8 @@ tally_after e (Some t) = record { count = t.count + 1; first = t.first }
 
 -- the turns that were gone through were noted, in their order
 pub record Noted (i : Image) (list : List (List ℕ)) (done : List Extension) (f : Findings) : Type 0 where
-  pub touched : AreKept (flat_map (turn_words any_kind i) done) f.words.touched.keys
-  pub wrote : AreKept (flat_map (turn_words writes i) done) f.words.wrote.keys
+  pub touched : AreKept (flat_map (turn_words any_kind i) done) f.words.touched
+  pub wrote : AreKept (flat_map (turn_words writes i) done) f.words.wrote
   pub faults : (slot cause : ℕ) → IsFrom list (first_in i done slot cause) (get order f.faults (slot, cause))
 
 -- these ends were noted, in their order

@@ -5,7 +5,8 @@ use Rattle.std.proofs.Math.Seq.{take-length, take-append_seam}
 use Rattle.std.proofs.lemmas.{List.{length-map, map-append, Quantifiers.position-Some}, Option.{get_or_from_slice_get, slice_get-get_or, slice_get-map, slice_get_cases, slice_get_within}}
 use Rattle.std.specs.{List.{IsDistinct, AllByRecursion, list_any}, Option.option_map}
 use Rattle.indexmap.specs.IndexSet.{insert_key}
-use Rattle.mm_pairs.{specs.Named.{named, HasGrown, HaveOneName, IsNameOf, AreNamed}, proofs.Names.name_stays}
+use Rattle.mm_pairs.{specs.{Named.{named, HasGrown, HaveOneName, IsNameOf, AreNamed}}, proofs.Names.name_stays}
+pub use Rattle.mm_pairs.specs.Found.{same_pair}
 
 -- 1. What is at the place of a name.
 
@@ -93,9 +94,6 @@ module _ {K A : Type 0} (eq : K → K → Bool) (f : K → A) (none : A) (P : K 
         by false = ap (take (length (map f keys))) (map-append f keys (k ∷ [])) ∙ take-append_seam (map f keys) (f k ∷ [])
 
 -- 3. Pairs of numbers by their test.
-
-abbrev pub same_pair : ℕ × ℕ → ℕ × ℕ → Bool
-same_pair x y = nat_eq x.0 y.0 && nat_eq x.1 y.1
 
 pub is_same : (x y : ℕ × ℕ) → same_pair x y ≡ true → x ≡ y
 is_same x y e = by (nat_eq x.0 y.0) refl e

@@ -1,3 +1,4 @@
 pub mod Names
 pub mod Changes
 pub mod Inserts
+pub mod Founds

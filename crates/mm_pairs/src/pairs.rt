@@ -50,7 +50,9 @@ impl Pairs {
         }
     }
 
-    /// The name of a pair, which is kept if it is new.
+    /// The name of a pair, which is kept if it is new. It is a part of its callers, so that a pair that was joined lately
+    /// takes no call.
+    #[inline(always)]
     pub fn join(&mut self, left: u32, right: u32) -> Result<u32, AllocError>
         ensures name { IfOk result (λ name. IsNameOf (0, 0) self.new name (left, right)) }
         ensures grown { HasGrown self.old self.new }
@@ -61,6 +63,15 @@ impl Pairs {
                 return Ok(*name);
             }
         }
+        self.join_anew(place, left, right)
+    }
+
+    /// The name of a pair, which is kept if it is new, and is remembered at the place that it asks for.
+    #[inline(never)]
+    fn join_anew(&mut self, place: usize, left: u32, right: u32) -> Result<u32, AllocError>
+        ensures name { IfOk result (λ name. IsNameOf (0, 0) self.new name (left, right)) }
+        ensures grown { HasGrown self.old self.new }
+    {
         let name = self.find(left, right)?;
         self.remember(place, (left, right), name)?;
         Ok(name)

@@ -106,6 +106,10 @@ impl Pairs {
         let half = 1 << (depth - 1);
         let (was_left, was_right) = self.parts(was);
         let (left, right) = self.parts(tree);
+        if was_right == right {
+            // The last call, so that a walk to one leaf is a loop.
+            return self.list_changed(was_left, left, depth - 1, first, out);
+        }
         self.list_changed(was_left, left, depth - 1, first, out)?;
         self.list_changed(was_right, right, depth - 1, first + half, out)
     }

@@ -1,4 +1,4 @@
-use Rattle.std.proofs.Common.{◌≡◌, ◌++◌, ◌∙◌, length, sym, ap}
+use Rattle.std.proofs.Common.{◌++◌, ◌∙◌, length, sym, ap}
 use Rattle.std.proofs.lemmas.List.{append-nil}
 use Rattle.mm_model.specs.Flags.{flags}
 use Rattle.mm_config.{specs.Forms.bits_set, proofs.WordForms.none_set}

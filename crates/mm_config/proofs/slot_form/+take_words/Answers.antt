@@ -1,4 +1,4 @@
-use Rattle.std.proofs.Common.{◌≡◌, ◌≤◌, ◌++◌, ◌∙◌, List, [], take, length, sym, ap, arith}
+use Rattle.std.proofs.Common.{◌++◌, ◌∙◌, List, take, length, sym, ap, arith}
 use Rattle.std.proofs.lemmas.List.{append-nil, drop_all}
 use borrow.Rule.Slice.PartMut.{Post-is}
 use Rattle.mm_word.specs.declared.word.Word.{Word}

@@ -12,17 +12,17 @@ unfolding slot_form
 returns c =
     let base = c.base.inside.regs in
     let words = c.slot.inside.regs in
-    let mask = c.changed_mask-changed.result in
+    let mask = c.masks_of-changed.result.0 in
     let was = c.args.base.now in
     let slot = c.args.slot.now in
     let out = c.args.out.now.items in
     let bits : bits_set (flags (length words) mask) words ≡ changed_bits was.regs slot.regs =
-    bits_changed base words mask (c.base.invariant.registers ∙ sym c.slot.invariant.registers) c.changed_mask-changed.ensures.value
+    bits_changed base words mask (c.base.invariant.registers ∙ sym c.slot.invariant.registers) c.masks_of-changed.ensures.changed
     ∙ (λ j. changed_bits (c.base.view_is j).regs (c.slot.view_is j).regs) in
     let head : c.push.new.self.items ≡ out ++ slot_head slot ∷ [] = c.in_ok-push.ensures.items ∙ ap (λ n. out ++ n ∷ []) c.head_of.ensures in
     let masks : c.push-2.new.self.items ≡ c.push.new.self.items ++ slot_masks was slot ∷ [] =
     c.in_ok-push-2.ensures.items ∙ ap (λ n. c.push.new.self.items ++ n ∷ [])
-    ((λ j. c.changed_mask-changed.ensures.value j + 65536 * c.pointer_mask.ensures.value j) ∙ (λ j. slot_masks (c.base.view_is j) (c.slot.view_is j))) in
+    ((λ j. c.masks_of-changed.ensures.changed j + 65536 * c.masks_of-changed.ensures.pointers j) ∙ (λ j. slot_masks (c.base.view_is j) (c.slot.view_is j))) in
     let ip : c.push-3.new.self.items ≡ c.push-2.new.self.items ++ bits_of slot.ip ∷ [] =
     c.in_ok-push-3.ensures.items ∙ ap (λ n. c.push-2.new.self.items ++ n ∷ []) (c.bits.ensures.bits ∙ (λ j. bits_of (c.slot.view_is j).ip)) in
     let put : c.put_bits.new.out.items ≡ c.push-3.new.self.items ++ changed_bits was.regs slot.regs = c.in_ok-put_bits.ensures ∙ ap (λ l. c.push-3.new.self.items ++ l) bits in

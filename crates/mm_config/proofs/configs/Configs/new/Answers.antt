@@ -27,12 +27,12 @@ started_at : (c : After-pages-2) → HasStarted c.args.img.now (record {
   depth = c.depth_for.result;
   names = record { slots = 0; queues = 0; outputs = 0; height = 0; pages = 0 };
   rest = 0;
-  kept = c.with_hasher.result;
+  kept = c.new-5.result;
   slots = c.in_ok-copies-2.field-0;
-  revision = c.new-5.result;
-  changed = c.new-6.result;
-  changed_cells = c.new-7.result;
-  numbers = c.new-8.result;
+  revision = c.new-6.result;
+  changed = c.new-7.result;
+  changed_cells = c.new-8.result;
+  numbers = c.new-9.result;
 })
 started_at c =
     let i = c.args.img.now in
@@ -42,7 +42,7 @@ started_at c =
     let memory : c.in_ok-mem.mem.memory ≡ i.memory = c.in_ok-mem.ensures.meaning ∙ λ j. record { pages = c.pages.ensures.pages j; frames = c.frames.ensures.frames j } in
     begins i _ c.slots.ensures.image (c.in_ok-copies.ensures ∙ c.slots-2.ensures.slots) (c.in_ok-copies-2.ensures ∙ c.slots-4.ensures.slots) c.depth_for.ensures.deep
     (subst (λ (l : List Slot). length l ≤ 2 ^ c.depth_for.result) c.slots-3.ensures.slots c.depth_for.ensures.wide)
-    (c.core.view_is ∙ core) (ap (λ (m : Plain). m.memory) c.mem.view_is ∙ memory) (ap (λ (m : Plain). m.uses) c.mem.view_is ∙ c.in_ok-mem.ensures.stands) c.new-4.ensures refl c.with_hasher.ensures.empty
+    (c.core.view_is ∙ core) (ap (λ (m : Plain). m.memory) c.mem.view_is ∙ memory) (ap (λ (m : Plain). m.uses) c.mem.view_is ∙ c.in_ok-mem.ensures.stands) c.new-4.ensures refl c.new-5.ensures
 
 pub note_all-requires : goal.note_all-requires
 note_all-requires c = (c.args.img.now, started_at c, c.pages-2.ensures.pages)

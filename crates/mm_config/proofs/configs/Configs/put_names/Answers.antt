@@ -1,6 +1,7 @@
 use Rattle.std.proofs.Common.{ℕ, refl, sym, subst}
 use Rattle.mm_config.specs.declared.configs.Configs as code
-use Rattle.mm_config.specs.{Keeping.Stands}
+use Rattle.std.proofs.lemmas.Result.{on_ok_weaker}
+use Rattle.mm_config.specs.{Keeping.Stands, Reaching.HasConfiguration}
 use Rattle.mm_config.proofs.Standing.{there_already, wanted_is, reaches_it, memory_before, memory_wanted, is_paged, same_frames, put_memory_so, put_stands}
 use Rattle.mm_config.proofs.configs.Configs.put_names.Goals as goal
 
@@ -8,6 +9,13 @@ pub returns-then-rest-self : goal.returns-then-rest-self
 returns-then-rest-self c = λ h.
     let key : ℕ × ℕ = (c.args.slots, c.args.rest) in
     there_already c.args.self.now key h c.apart.ensures (λ j. (c.if-slots-self.true j, c.if-rest-self.true j))
+
+pub returns-then-rest-self-2 : goal.returns-then-rest-self-2
+returns-then-rest-self-2 c =
+    let me = c.args.self.now in
+    on_ok_weaker c.put_slots.result
+    (subst (λ rest. (h : HasConfiguration me (c.args.slots, rest)) → Stands h.image (record h.at { machine = h.state }) c.put_slots.new.self) (sym c.if-rest-self-2.true))
+    c.put_slots.ensures
 
 pub of-wanted-requires : goal.of-wanted-requires
 of-wanted-requires c = (c.requires.is.names, c.requires.is.rest)

@@ -24,7 +24,7 @@ returns c = λ limit ends explored is_all is_more noted are.
     let words = c.requires.noted in
     let (gs, is, all_zip) = c.in_ok-put_groups.ensures in
     let found_are = is ∙ ap (λ l. l ++ gs) c.new-reached.ensures.items in
-    let groups : AllZip (IsGroupOf i list) c.args.groups.now gs = groups_found i list f.words.touched.keys f.words.wrote.keys words.touched words.wrote c.args.groups.now gs all_zip in
+    let groups : AllZip (IsGroupOf i list) c.args.groups.now gs = groups_found i list f.words.touched f.words.wrote words.touched words.wrote c.args.groups.now gs all_zip in
     record {
       list = list;
       explored = explored;

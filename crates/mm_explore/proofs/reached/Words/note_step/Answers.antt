@@ -9,7 +9,7 @@ returns-clause-touched c =
     let group = c.args.group in
     let step = c.args.step.now in
     more_ok c.note-2.result
-    (λ more kept h. subst (λ l. AreKept l c.note-2.new.self.touched.keys) (step_joined any_kind group kept step)
+    (λ more kept h. subst (λ l. AreKept l c.note-2.new.self.touched) (step_joined any_kind group kept step)
     (more (kept ++ flat_map (passed_words any_kind group) (option_to_list step.fetched)) (c.in_ok-note.ensures.touched kept h)))
     c.note-2.ensures.touched
 
@@ -18,6 +18,6 @@ returns-clause-wrote c =
     let group = c.args.group in
     let step = c.args.step.now in
     more_ok c.note-2.result
-    (λ more kept h. subst (λ l. AreKept l c.note-2.new.self.wrote.keys) (step_joined writes group kept step)
+    (λ more kept h. subst (λ l. AreKept l c.note-2.new.self.wrote) (step_joined writes group kept step)
     (more (kept ++ flat_map (passed_words writes group) (option_to_list step.fetched)) (c.in_ok-note.ensures.wrote kept h)))
     c.note-2.ensures.wrote

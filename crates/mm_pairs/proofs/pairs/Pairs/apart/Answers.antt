@@ -1,6 +1,6 @@
 use Rattle.std.proofs.Common.{◌≡◌, ℕ, subst, ◌∙◌}
 use Rattle.std.proofs.lemmas.List.{map-id}
-use Rattle.mm_pairs.{specs.{Named.HaveOneName, Trees.TreesAreApart}, proofs.{Inserts.{have_one_name, same_pair, own_pair}, Names.trees_apart}}
+use Rattle.mm_pairs.{specs.{Named.HaveOneName}, proofs.{Inserts.{have_one_name, same_pair, own_pair}, Names.trees_apart}}
 use Rattle.mm_pairs.proofs.pairs.Pairs.apart.Goals as goal
 
 pub returns : goal.returns

@@ -1,6 +1,5 @@
 use Rattle.std.proofs.Common.{◌≡◌, ◌+◌, ℕ, List, map, sym, subst, ap}
 use Rattle.std.proofs.lemmas.List.{map-id}
-use Rattle.std.specs.List.{AllByRecursion}
 use Rattle.mm_pairs.{specs.Named.{IsNameOf, HasGrown}, proofs.Inserts.{all_more, is_named, has_grown, named_still, same_pair, is_same}}
 use Rattle.mm_pairs.proofs.pairs.Pairs.find.Goals as goal
 use Rattle.mm_pairs.proofs.pairs.Pairs.find.Goals.{else-left-eq0-via-then-left-eq0+else-right-eq0, else-left-eq0-via-else-left-eq0}

@@ -1,4 +1,4 @@
-use Rattle.std.proofs.Common.{◌≡◌, ◌-◌, ℕ, List, [], ◌++◌, take, replicate, length, sym, subst}
+use Rattle.std.proofs.Common.{◌-◌, ℕ, sym, subst}
 use Rattle.std.specs.{List.{AllByRecursion}, Vec.{vec_len}}
 use Rattle.mm_pairs.{specs.Named.{IsNameOf}, proofs.Inserts.{each_filled, none_named}}
 use Rattle.mm_pairs.proofs.pairs.Pairs.make_places.Goals as goal

@@ -1,4 +1,4 @@
-use Rattle.std.proofs.Common.{◌≡◌, ℕ, List, ◌∙◌, sym, subst}
+use Rattle.std.proofs.Common.{ℕ, List, ◌∙◌, sym, subst}
 use Rattle.mm_pairs.{specs.Named.{IsNameOf}, proofs.Inserts.{each_set}}
 use Rattle.mm_pairs.proofs.pairs.Pairs.remember.Goals as goal
 
