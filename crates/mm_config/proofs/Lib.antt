@@ -34,6 +34,8 @@ pub mod Revising
 pub mod Turned
 pub mod CellForms
 pub mod ListForms
+pub mod Shortened
+pub mod ListsKept
 pub mod Placing
 pub mod PageTrees
 pub mod PageCells

@@ -9,6 +9,7 @@ pub mod Noting
 pub mod Putting
 pub mod Machines
 pub mod Keeping
+pub mod ListsFound
 pub mod Reads
 pub mod Reaching
 pub mod Turning

@@ -1,6 +1,6 @@
 //! Cells of memory, each kept once.
 
-ghost use Rattle.std.specs.Prelude.{◌≡◌, ◌≤◌, [], IfOk, length};
+ghost use Rattle.std.specs.Prelude.{◌≡◌, ◌≤◌, [], IfOk, IsTrue, length};
 ghost use Rattle.mm_model.specs.Memory.{zero_cell};
 ghost use Rattle.mm_pairs.specs.Named.{named, HasGrown, HaveOneName, IsNameOf};
 ghost use Rattle.mm_config.specs.Forms.{cell_form, cell_from};
@@ -38,6 +38,15 @@ fn form_of(cell: &Cell) -> (u64, u8)
 {
     let bits = cell.word.bits();
     (bits, cell.full as u8 + 2 * cell.word.is_pointer() as u8)
+}
+
+/// Whether a cell is [`Cell::ZERO`].
+#[inline(always)]
+pub(crate) fn is_zero(cell: &Cell) -> bool
+    ensures { IsTrue result → cell.now ≡ zero_cell }
+{
+    let (bits, marks) = form_of(cell);
+    bits == 0 && marks == 1
 }
 
 impl Cells {

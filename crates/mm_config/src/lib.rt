@@ -9,6 +9,7 @@
 //! |---|---|---|
 //! | a slot | numbers: its difference from the image's | `slot_form` |
 //! | a queue | numbers | `events` |
+//! | the numbers of a slot or a queue | a list, which stands behind the others in one vector | `lists`, `rows` |
 //! | an output | a pair of a shorter output and of one more than its last byte | `outputs` |
 //! | a cell | its bits, and whether it is full and a pointer | `cells` |
 //! | a page | a pair of 1 and of the tree of its 512 cells | `pages` |
@@ -30,6 +31,7 @@ mod places;
 mod put;
 mod put_memory;
 mod reader;
+mod rows;
 mod slot_form;
 mod store;
 

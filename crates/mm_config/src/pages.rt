@@ -1,12 +1,14 @@
 //! Trees of pages, each of which is a tree of cells.
 
-ghost use Rattle.std.specs.Prelude.{◌≡◌, ◌<◌, ◌≤◌, ◌^◌, [], IfOk, IsTrue, OnOk, length};
+ghost use Rattle.std.specs.Prelude.{◌≡◌, ◌<◌, ◌≤◌, ◌^◌, [], IfOk, IsTrue, OnOk, length, replicate};
 ghost use Rattle.std.specs.FinMap.{is_sorted};
 ghost use Rattle.std.specs.Ordering.{nat_cmp};
+ghost use Rattle.mm_model.specs.Memory.{zero_cell};
 ghost use Rattle.mm_pairs.specs.Trees.{IsTree};
 ghost use Rattle.mm_config.specs.Naming.{AreCells, AreMemoryNames, IsTreeOfPages, page_name, IsLow};
 ghost use Rattle.mm_config.specs.Noting.{HasMoreCells, HasOtherPages, HaveSamePlaces, IsKeptStill, IsSameTree, PutsPage};
 
+use crate::cells::is_zero;
 use crate::names::Names;
 use crate::store::Store;
 use mm_model::Page;
@@ -32,6 +34,30 @@ fn name_cells(store: &mut Store, cells: &[Cell], depth: u32) -> Result<u32, Allo
     let left = name_cells(store, first, depth - 1)?;
     let right = name_cells(store, second, depth - 1)?;
     store.pairs.join(left, right)
+}
+
+/// Whether all of these cells are zeros.
+fn are_zeros(cells: &[Cell]) -> bool
+    ensures { IsTrue result → cells.now ≡ replicate (length cells.now) zero_cell }
+{
+    for cell in cells {
+        if !is_zero(cell) {
+            return false;
+        }
+    }
+    true
+}
+
+/// The name of the tree of the cells of a page. A page of zeros, as many are, takes no walk.
+fn name_page(store: &mut Store, cells: &[Cell]) -> Result<u32, AllocError>
+    requires { length cells.now ≡ 512 }
+    ensures tree { IfOk result (λ tree. AreCells store.new 9 tree cells.now) }
+    ensures more { OnOk result (HasMoreCells store.old store.new) }
+{
+    if are_zeros(cells) {
+        return Ok(0);
+    }
+    name_cells(store, cells, DEPTH)
 }
 
 /// Makes the tree of pages as deep as a place asks.
@@ -145,7 +171,7 @@ pub(crate) fn note_pages(
     ensures others { OnOk result (HasOtherPages names.old names.new) }
 {
     for page in pages {
-        let cells = name_cells(store, page.cells(), DEPTH)?;
+        let cells = name_page(store, page.cells())?;
         let name = store.pairs.join(1, cells)?;
         put_page(store, names, page.number(), name)?;
     }

@@ -6,7 +6,7 @@ use Rattle.mm_config.proofs.pages.note_pages.Goals as goal
 pub put_page-requires : goal.put_page-requires
 put_page-requires c =
     let k = c.loop-page.store in
-    let k1 = c.name_cells.new.store in
+    let k1 = c.name_page.new.store in
     let k2 : Store = record k1 { pairs = c.join.new.self } in
     tree_more k k2 (more_twice k k1 k2 c.in_ok-cells.ensures.more (more_pairs k1 c.join.new.self c.in_ok-name.ensures.grown)) c.loop-page.names c.loop-page.invariant.names.tree
 
@@ -14,7 +14,7 @@ pub loop-page-preserved : goal.loop-page-preserved
 loop-page-preserved c =
     let l = c.loop-page in
     let k = l.store in
-    let k1 = c.name_cells.new.store in
+    let k1 = c.name_page.new.store in
     let pairs = c.join.new.self in
     let k2 : Store = record k1 { pairs = pairs } in
     let k4 = c.put_page.new.store in
